@@ -1,0 +1,1 @@
+// Level File: definitions only. What a net file is stands in specs/.
