@@ -44,7 +44,10 @@ pub fn be32(s: &[u8], at: usize) -> u32
     if n - at < 4 {
         return be32_short(s, at);
     }
-    16777216 * wide32(s[at]) + 65536 * wide32(s[at + 1]) + 256 * wide32(s[at + 2]) + wide32(s[at + 3])
+    16777216 * wide32(s[at])
+        + 65536 * wide32(s[at + 1])
+        + 256 * wide32(s[at + 2])
+        + wide32(s[at + 3])
 }
 
 // Where the slice ends within the number.

@@ -51,11 +51,13 @@ bound {A} {B} p f bs b r h = go (p bs) refl h
 module _ {s : List ℕ} where
   pub stands-bind : {A B : Type 0} {p : Parser A} (f : A → Parser B) {at : ℕ} {a : A} {m : ℕ} {b : B} {e : ℕ}
       → Stands s p at a m → Stands s (f a) m b e → Stands s (p >>= f) at b e
-  stands-bind {p = p} f {at = at} h k = record { by = λ x r i g.
-      let w = bound p f (drop at s) x r g in
-      let y = h .by (w .value) (w .rest) i (w .first) in
-      let z = k .by x r (y .3) (rw (y .0, y .1) at (w .next)) in
-      (z .0, z .1, omega arith, z .3) }
+  stands-bind {p = p} f {at = at} h k = record {
+    by = λ x r i g.
+        let w = bound p f (drop at s) x r g in
+        let y = h .by (w .value) (w .rest) i (w .first) in
+        let z = k .by x r (y .3) (rw (y .0, y .1) at (w .next)) in
+        (z .0, z .1, omega arith, z .3);
+  }
 
   pub stands-give : {A : Type 0} {a : A} {at : ℕ} → Stands s (give a) at a at
   stands-give = record { by = λ x r i g. let y = some-value g in (sym (y .0), sym (y .1), omega arith, i) }
@@ -156,19 +158,23 @@ module _ (s : List ℕ) where
   run-out k at i h = number-out k 0 at i h
 
   stands-number : (k n at : ℕ) → Stands s (numberFrom k n) at (valueFrom k n at) (at + k)
-  stands-number k n at = record { by = λ x r i g. elim (decLt (length s) (at + k)) [
-    | yes l ↦ let z : _≡_ {A = ℕ} 0 1 = cc (number-out k n at i l) in absurd (omega arith)
-    | no l ↦
-      let l′ : at + k ≤ length s = omega arith in
-      let y = some-value (sym g ∙ number-in k n at l′) in
-      (y .0, y .1, omega arith, l′)
-  ] }
+  stands-number k n at = record {
+    by = λ x r i g. elim (decLt (length s) (at + k)) [
+      | yes l ↦ let z : _≡_ {A = ℕ} 0 1 = cc (number-out k n at i l) in absurd (omega arith)
+      | no l ↦
+          let l′ : at + k ≤ length s = omega arith in
+          let y = some-value (sym g ∙ number-in k n at l′) in
+          (y .0, y .1, omega arith, l′)
+    ];
+  }
 
   pub stands-byte : (at : ℕ) → Stands s Read.byte at (byte s at) (at + 1)
-  stands-byte at = record { by = λ x r i g. elim (decLt at (length s)) [
-    | yes l ↦ let y = some-value (sym g ∙ byte-in at l) in (y .0, y .1, omega arith, omega arith)
-    | no l ↦ let z : _≡_ {A = ℕ} 0 1 = cc (byte-out at (omega arith)) in absurd (omega arith)
-  ] }
+  stands-byte at = record {
+    by = λ x r i g. elim (decLt at (length s)) [
+      | yes l ↦ let y = some-value (sym g ∙ byte-in at l) in (y .0, y .1, omega arith, omega arith)
+      | no l ↦ let z : _≡_ {A = ℕ} 0 1 = cc (byte-out at (omega arith)) in absurd (omega arith)
+    ];
+  }
 
   pub stands-1 : (at : ℕ) → Stands s (number 1) at (byte s at) (at + 1)
   unfolding number

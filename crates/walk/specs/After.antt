@@ -78,7 +78,6 @@ module _ {A : Type 0} {p : Parser A} {s : List ℕ} {at : ℕ} {v : A} {e : ℕ}
           let t : e′ ≡ e = cc in
           record { is = t; from = i; within = y .3; read = r }
 
-
 -- ---- one part, then the rest
 
 module _ {A B : Type 0} (p : Parser A) (f : A → Parser B) (s : List ℕ) (at : ℕ) where

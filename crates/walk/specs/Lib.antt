@@ -1,2 +1,4 @@
 pub mod After
+pub mod Room
+pub mod Loops
 pub mod Walk

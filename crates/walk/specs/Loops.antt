@@ -1,0 +1,79 @@
+-- The walk over n parts, one after another: one turn, a turn that stops it, the end.
+use Prim.Native.Nat.{ℕ, zero, suc, _+_, _-_, _<_, _≤_}
+use mathlib.Core.Path.{_≡_, refl, sym, ap, _∙_}
+use mathlib.Core.Option.{Option, none, some}
+use mathlib.Core.List.{List, [], _∷_}
+use native.Mathlib.Numerals.{add-one, sub-one}
+use native.Mathlib.Nat.{not-suc-le-zero}
+use lib.ListN.{length, drop}
+use Rattle.net_file.specs.Read.{Parser, then, _>>=_, give, timesFrom, times}
+use Rattle.stored.specs.Laws.{Stands}
+use Rattle.walk.specs.declared.Walked.{Walked}
+use Rattle.walk.specs.declared.Walked.the-variants.{At, Bad}
+use Rattle.walk.specs.After.{after, after-none, after-bind, after-stop, after-go, after-bad, after-map, after-give}
+
+-- ---- parts that may depend on their place in the list
+
+module _ {A : Type 0} (p : ℕ → Parser A) (s : List ℕ) where
+  pub from-more : (i at at′ k : ℕ) (v : A) (e : ℕ) (r x : Walked) → Stands s (p i) at v e → after at (timesFrom p i k) s ≡ x → 0 < k
+      → r ≡ after at (p i) s → r ≡ At at′ → after at′ (timesFrom p (i + 1) (k - 1)) s ≡ x
+  unfolding timesFrom
+  from-more i at at′ zero v e r x st g h er ea = absurd (not-suc-le-zero h)
+  from-more i at at′ (suc k) v e r x st g h er ea =
+      rw (sub-one, add-one) (sym (after-map (timesFrom p (suc i) k) (λ xs. v ∷ xs) s at′)
+      ∙ sym (after-go (p i) (λ y. timesFrom p (suc i) k >>= λ ys. give (y ∷ ys)) s at v e at′ r st er ea) ∙ g)
+
+  pub from-bad : (i at k : ℕ) (r x : Walked) → after at (timesFrom p i k) s ≡ x → 0 < k → r ≡ after at (p i) s → r ≡ Bad → Bad ≡ x
+  unfolding timesFrom
+  from-bad i at zero r x g h er eb = absurd (not-suc-le-zero h)
+  from-bad i at (suc k) r x g h er eb = after-bad (p i) (λ y. timesFrom p (suc i) k >>= λ ys. give (y ∷ ys)) s at r er eb ∙ g
+
+  pub from-done : (i at k : ℕ) (x : Walked) → after at (timesFrom p i k) s ≡ x → k ≤ 0 → at ≤ length s → At at ≡ x
+  unfolding timesFrom
+  from-done i at zero x g h l = after-give {A = List A} [] s at l ∙ g
+  from-done i at (suc k) x g h l = absurd (not-suc-le-zero h)
+
+-- ---- parts that are all alike
+
+module _ {A : Type 0} (p : Parser A) where
+  same-from : (i j n : ℕ) → timesFrom (λ _. p) i n ≡ timesFrom (λ _. p) j n
+  unfolding timesFrom
+  same-from i j zero = refl
+  same-from i j (suc n) = ap (λ (q : Parser (List A)). p >>= λ x. q >>= λ xs. give (x ∷ xs)) (same-from (suc i) (suc j) n)
+
+  pub times-zero : times 0 p ≡ give []
+  unfolding times timesFrom
+  times-zero = refl
+
+  pub times-suc : (n : ℕ) → times (suc n) p ≡ (p >>= λ x. times n p >>= λ xs. give (x ∷ xs))
+  unfolding times timesFrom
+  times-suc n = ap (λ (q : Parser (List A)). p >>= λ x. q >>= λ xs. give (x ∷ xs)) (same-from 1 0 n)
+
+  module _ (s : List ℕ) where
+    -- one turn, by what the part at its place is read as
+    pub times-next : (at m k : ℕ) (v : A) (x : Walked) → after at (times k p) s ≡ x → 0 < k
+        → at ≤ length s → p (drop at s) ≡ some (v, drop m s) → m ≤ length s → after m (times (k - 1) p) s ≡ x
+    times-next at m zero v x g h i r l = absurd (not-suc-le-zero h)
+    times-next at m (suc k) v x g h i r l =
+        rw sub-one (sym (after-map (times k p) (λ xs. v ∷ xs) s m)
+        ∙ sym (after-bind p (λ y. times k p >>= λ ys. give (y ∷ ys)) s at v m i r l) ∙ rw times-suc at g)
+
+    pub times-none : (at k : ℕ) (x : Walked) → after at (times k p) s ≡ x → 0 < k → at ≤ length s → p (drop at s) ≡ none → Bad ≡ x
+    times-none at zero x g h i r = absurd (not-suc-le-zero h)
+    times-none at (suc k) x g h i r = after-stop p (λ y. times k p >>= λ ys. give (y ∷ ys)) s at i r ∙ rw times-suc at g
+
+    -- one turn, by what a walk over the part answered
+    pub times-more : (at at′ k : ℕ) (v : A) (e : ℕ) (r x : Walked) → Stands s p at v e → after at (times k p) s ≡ x → 0 < k
+        → r ≡ after at p s → r ≡ At at′ → after at′ (times (k - 1) p) s ≡ x
+    times-more at at′ zero v e r x st g h er ea = absurd (not-suc-le-zero h)
+    times-more at at′ (suc k) v e r x st g h er ea =
+        rw sub-one (sym (after-map (times k p) (λ xs. v ∷ xs) s at′)
+        ∙ sym (after-go p (λ y. times k p >>= λ ys. give (y ∷ ys)) s at v e at′ r st er ea) ∙ rw times-suc at g)
+
+    pub times-bad : (at k : ℕ) (r x : Walked) → after at (times k p) s ≡ x → 0 < k → r ≡ after at p s → r ≡ Bad → Bad ≡ x
+    times-bad at zero r x g h er eb = absurd (not-suc-le-zero h)
+    times-bad at (suc k) r x g h er eb = after-bad p (λ y. times k p >>= λ ys. give (y ∷ ys)) s at r er eb ∙ rw times-suc at g
+
+    pub times-done : (at k : ℕ) (x : Walked) → after at (times k p) s ≡ x → k ≤ 0 → at ≤ length s → At at ≡ x
+    times-done at zero x g h l = after-give {A = List A} [] s at l ∙ rw times-zero at g
+    times-done at (suc k) x g h l = absurd (not-suc-le-zero h)
