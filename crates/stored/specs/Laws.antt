@@ -206,6 +206,11 @@ module _ (s : List ℕ) where
   unfolding times
   stands-times p one end h n at = stands-timesFrom (λ i. p) one end (λ i. h) 0 n at
 
+  pub table-length : {A : Type 0} (one : ℕ → A) (end : ℕ → ℕ) (at n : ℕ) → length (tableAt one end at n) ≡ n
+  unfolding tableAt
+  table-length one end at zero = refl
+  table-length one end at (suc n) = ap suc (table-length one end (end at) n)
+
   -- a table whose elements are all k long
   pub table-steps : (k at n : ℕ) → tableEnd (λ a. a + k) at n ≡ at + k * n
   unfolding tableEnd

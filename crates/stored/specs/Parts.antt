@@ -13,7 +13,7 @@ use Rattle.net_file.specs.Read.{Parser, _>>=_, give, such, number, below, times
 use Rattle.net_file.specs.Read
 use Rattle.fields.specs.Fields.{byte, be16, be32, be64}
 use Rattle.stored.specs.Stored.{tableAt, tableEnd, numbersAt, listAt, listEnd, bytesAt, pathAt, pathEnd, nameAt, nameEnd, ruleOf, ruleOfEnd, ruleAt, ruleEnd, nodeAt, nodeEnd, pairAt, pairsAt, nodesAt, pairCountAt, nodeCountAt, flatNetAt, flatNetEnd}
-use Rattle.stored.specs.Laws.{Stands, stands-bind, stands-give, stands-such, stands-never, stands-as, stands-byte, stands-1, stands-2, stands-4, stands-8, stands-timesFrom, stands-times, table-steps, stands-below, stands-many, stands-numbers}
+use Rattle.stored.specs.Laws.{Stands, stands-bind, stands-give, stands-such, stands-never, stands-as, stands-byte, stands-1, stands-2, stands-4, stands-8, stands-timesFrom, stands-times, table-length, table-steps, stands-below, stands-many, stands-numbers}
 
 module _ (s : List ℕ) where
   pub stands-name : (paths c at : ℕ) → Stands s (readName paths c) at (nameAt s at) (nameEnd s at)
@@ -32,15 +32,23 @@ module _ (s : List ℕ) where
   unfolding readList
   stands-list paths at = stands-numbers s 255 paths at
 
-  stands-char : (at : ℕ) → Stands s readChar at (byte s at) (at + 1)
+  pub stands-char : (at : ℕ) → Stands s readChar at (byte s at) (at + 1)
   unfolding readChar
   stands-char at = stands-bind _ (stands-byte s at) (stands-such (leb 33 (byte s at) && leb (byte s at) 126))
 
+  -- a path before its length is looked at
+  pub stands-chars : (at : ℕ) → Stands s (many 1 64 readChar) at (pathAt s at) (pathEnd s at)
+  unfolding pathAt pathEnd bytesAt
+  stands-chars at =
+      stands-as (stands-many s 1 64 readChar (byte s) (λ a. a + 1) at _ _ (stands-1 s at) stands-char) refl (table-steps s 1 (at + 1) (byte s at) ∙ omega arith)
+
+  pub path-length : (at : ℕ) → length (pathAt s at) ≡ byte s at
+  unfolding pathAt bytesAt
+  path-length at = table-length s (byte s) (λ a. a + 1) (at + 1) (byte s at)
+
   pub stands-path : (at : ℕ) → Stands s readPath at (pathAt s at) (pathEnd s at)
-  unfolding readPath pathAt pathEnd bytesAt
-  stands-path at = stands-bind _
-      (stands-as (stands-many s 1 64 readChar (byte s) (λ a. a + 1) at _ _ (stands-1 s at) stands-char) refl (table-steps s 1 (at + 1) (byte s at) ∙ omega arith))
-      (stands-such (leb 1 (length (tableAt (byte s) (λ a. a + 1) (at + 1) (byte s at)))))
+  unfolding readPath
+  stands-path at = stands-bind _ (stands-chars at) (stands-such (leb 1 (length (pathAt s at))))
 
   -- after its tag
   stands-tagged : (paths tag at : ℕ) → Stands s (readTagged paths tag) at (ruleOf s tag at) (ruleOfEnd s tag at)

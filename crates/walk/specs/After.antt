@@ -78,6 +78,18 @@ module _ {A : Type 0} {p : Parser A} {s : List ℕ} {at : ℕ} {v : A} {e : ℕ}
           let t : e′ ≡ e = cc in
           record { is = t; from = i; within = y .3; read = r }
 
+-- no walk comes past the end
+pub after-within : {A : Type 0} (p : Parser A) (s : List ℕ) (at e : ℕ) (w : Walked) → w ≡ after at p s → w ≡ At e → e ≤ length s
+unfolding place
+after-within {A} p s at e w ew ea = elim (decLt (length s) at) [
+  | yes l ↦ never e (sym ea ∙ ew ∙ sym (after-past p s at l))
+  | no l ↦ go (p (drop at s)) (sym ea ∙ ew ∙ after-in p s at (omega arith))
+]
+  where
+    go : (o : Option (A × List ℕ)) → At e ≡ place s o → e ≤ length s
+    go none g = never e g
+    go (some q) g = let z : e ≡ length s - length (q .1) = cc in omega arith
+
 -- ---- one part, then the rest
 
 module _ {A B : Type 0} (p : Parser A) (f : A → Parser B) (s : List ℕ) (at : ℕ) where
@@ -110,3 +122,29 @@ after-map {A} {B} p g s at = ap (if-lt (length s) at Bad) (go (p (drop at s)))
 
 pub after-give : {A : Type 0} (a : A) (s : List ℕ) (at : ℕ) → at ≤ length s → At at ≡ after at (give a) s
 after-give a s at h = after-some (give a) s at a at h refl h
+
+-- ---- a test of what was read
+
+module _ {A : Type 0} (p : Parser A) (t : A → Bool) (s : List ℕ) (at : ℕ) where
+  -- a part that comes to nothing is refused whatever is tested
+  pub after-check-bad : Bad ≡ after at p s → Bad ≡ after at (p >>= λ x. such (t x) x) s
+  after-check-bad h = after-bad p (λ x. such (t x) x) s at Bad h refl
+
+  module _ {v : A} {e : ℕ} (h : Stands s p at v e) where
+    pub after-unfit : (w : Walked) → w ≡ after at p s → t v ≡ false → Bad ≡ after at (p >>= λ x. such (t x) x) s
+    after-unfit w ew f = go w refl
+      where
+        go : (u : Walked) → w ≡ u → Bad ≡ after at (p >>= λ x. such (t x) x) s
+        go Bad eu = after-bad p (λ x. such (t x) x) s at w ew eu
+        go (At m) eu =
+            let y = went w m h ew eu in
+            after-none (p >>= λ x. such (t x) x) s at (y .from) (rw (y .read, f))
+
+    pub after-fit : (w : Walked) → w ≡ after at p s → t v ≡ true → w ≡ after at (p >>= λ x. such (t x) x) s
+    after-fit w ew f = go w refl
+      where
+        go : (u : Walked) → w ≡ u → w ≡ after at (p >>= λ x. such (t x) x) s
+        go Bad eu = eu ∙ after-bad p (λ x. such (t x) x) s at w ew eu
+        go (At m) eu =
+            let y = went w m h ew eu in
+            eu ∙ ap At (y .is) ∙ after-some (p >>= λ x. such (t x) x) s at v e (y .from) (rw (y .read, f)) (y .within)
