@@ -148,3 +148,29 @@ module _ {A : Type 0} (p : Parser A) (t : A → Bool) (s : List ℕ) (at : ℕ) 
         go (At m) eu =
             let y = went w m h ew eu in
             eu ∙ ap At (y .is) ∙ after-some (p >>= λ x. such (t x) x) s at v e (y .from) (rw (y .read, f)) (y .within)
+
+-- ---- two parsers that come to the same place
+
+abbrev pub Same : {A B : Type 0} → List ℕ → Parser A → Parser B → Type 0
+Same s p q = (bs : List ℕ) → place s (p bs) ≡ place s (q bs)
+
+module _ (s : List ℕ) where
+  pub after-same : {A B : Type 0} (p : Parser A) (q : Parser B) (at : ℕ) → Same s p q → after at p s ≡ after at q s
+  unfolding after
+  after-same p q at h = ap (if-lt (length s) at Bad) (h (drop at s))
+
+  pub same-map : {A B : Type 0} (p : Parser A) (g : A → B) → Same s (p >>= λ x. give (g x)) p
+  unfolding place
+  same-map {A} p g bs = go (p bs)
+    where
+      go : (o : Option (A × List ℕ)) → place s (then o (λ x. give (g x))) ≡ place s o
+      go none = refl
+      go (some q) = refl
+
+  pub same-bind : {A B C : Type 0} (p : Parser A) (f : A → Parser B) (g : A → Parser C) → ((a : A) → Same s (f a) (g a)) → Same s (p >>= f) (p >>= g)
+  unfolding place
+  same-bind {A} p f g h bs = go (p bs)
+    where
+      go : (o : Option (A × List ℕ)) → place s (then o f) ≡ place s (then o g)
+      go none = refl
+      go (some q) = h (q .0) (q .1)

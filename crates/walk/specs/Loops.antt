@@ -10,7 +10,7 @@ use Rattle.net_file.specs.Read.{Parser, then, _>>=_, give, timesFrom, times}
 use Rattle.stored.specs.Laws.{Stands}
 use Rattle.walk.specs.declared.Walked.{Walked}
 use Rattle.walk.specs.declared.Walked.the-variants.{At, Bad}
-use Rattle.walk.specs.After.{after, after-none, after-bind, after-stop, after-go, after-bad, after-map, after-give}
+use Rattle.walk.specs.After.{after, place, Same, same-map, same-bind, after-none, after-bind, after-stop, after-go, after-bad, after-map, after-give}
 
 -- ---- parts that may depend on their place in the list
 
@@ -77,3 +77,25 @@ module _ {A : Type 0} (p : Parser A) where
     pub times-done : (at k : ℕ) (x : Walked) → after at (times k p) s ≡ x → k ≤ 0 → at ≤ length s → At at ≡ x
     times-done at zero x g h l = after-give {A = List A} [] s at l ∙ rw times-zero at g
     times-done at (suc k) x g h l = absurd (not-suc-le-zero h)
+
+-- ---- a few parts, written out
+
+module _ {A : Type 0} (p : Parser A) (s : List ℕ) where
+  one-same : Same s (times 1 p) p
+  unfolding times timesFrom
+  one-same bs = ap (λ (q : Parser (List A)). place s (q bs)) (times-suc p 0) ∙ same-map s p (λ x. x ∷ []) bs
+
+  pub times-1 : {B : Type 0} (f : A → B) → Same s (p >>= λ x. give (f x)) (times 1 p)
+  times-1 f bs = same-map s p f bs ∙ sym (one-same bs)
+
+  -- one more part before n
+  more-same : {B : Type 0} (n : ℕ) (f : A → Parser B) → ((x : A) → Same s (f x) (times n p)) → Same s (p >>= f) (times (suc n) p)
+  more-same n f h bs =
+      same-bind s p f (λ x. times n p >>= λ xs. give (x ∷ xs)) (λ x cs. h x cs ∙ sym (same-map s (times n p) (λ xs. x ∷ xs) cs)) bs
+      ∙ ap (λ (r : Parser (List A)). place s (r bs)) (sym (times-suc p n))
+
+  pub times-2 : {B : Type 0} (f : A → A → B) → Same s (p >>= λ x. p >>= λ y. give (f x y)) (times 2 p)
+  times-2 f = more-same 1 (λ x. p >>= λ y. give (f x y)) (λ x. times-1 (f x))
+
+  pub times-3 : {B : Type 0} (f : A → A → A → B) → Same s (p >>= λ x. p >>= λ y. p >>= λ z. give (f x y z)) (times 3 p)
+  times-3 f = more-same 2 (λ x. p >>= λ y. p >>= λ z. give (f x y z)) (λ x. times-2 (f x))

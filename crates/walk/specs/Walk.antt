@@ -9,8 +9,9 @@ use native.Mathlib.Decide.{decLt}
 use native.Mathlib.Numerals.{add-one, sub-one}
 use native.Mathlib.Nat.{not-suc-le-zero}
 use lib.ListN.{length, drop}
+use lib.Dec.{eqb}
 use Rattle.net_file.specs.Values.{Name}
-use Rattle.net_file.specs.Read.{Parser, then, _>>=_, give, such, number, below, timesFrom, times, many, readName}
+use Rattle.net_file.specs.Read.{Parser, then, _>>=_, give, such, number, below, timesFrom, times, many, readName, readBit}
 use Rattle.fields.specs.Fields.{byte, be16, be64}
 use Rattle.stored.specs.Laws.{Stands, in-1, in-2, in-8, run-out, below-in, below-high, below-out, stands-below, stands-2, stands-8}
 use Rattle.walk.specs.declared.Walked.{Walked}
@@ -30,6 +31,16 @@ module _ (s : List ℕ) (b at : ℕ) where
 
   pub below-2-out : at ≤ length s → length s < at + 2 → below 2 b (drop at s) ≡ none
   below-2-out i h = below-out 2 b (drop at s) (run-out s 2 at i h)
+
+-- a mark of one byte, 0 or 1
+module _ (s : List ℕ) (at : ℕ) where
+  pub bit-in : at + 1 ≤ length s → byte s at < 2 → readBit (drop at s) ≡ some (eqb (byte s at) 1, drop (at + 1) s)
+  unfolding readBit
+  bit-in h l = ap (λ o. then o (λ b. give (eqb b 1))) (below-in 1 2 (drop at s) _ _ (in-1 s at h) l)
+
+  pub bit-high : at + 1 ≤ length s → 2 ≤ byte s at → readBit (drop at s) ≡ none
+  unfolding readBit
+  bit-high h l = ap (λ o. then o (λ b. give (eqb b 1))) (below-high 1 2 (drop at s) _ _ (in-1 s at h) l)
 
 -- ---- numbers
 
