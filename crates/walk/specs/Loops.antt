@@ -1,10 +1,11 @@
 -- The walk over n parts, one after another: one turn, a turn that stops it, the end.
-use Prim.Native.Nat.{ℕ, zero, suc, _+_, _-_, _<_, _≤_}
+use Prim.Native.Nat.{ℕ, zero, suc, _+_, _*_, _-_, _<_, _≤_}
 use mathlib.Core.Path.{_≡_, refl, sym, ap, _∙_}
 use mathlib.Core.Option.{Option, none, some}
 use mathlib.Core.List.{List, [], _∷_}
 use native.Mathlib.Numerals.{add-one, sub-one}
 use native.Mathlib.Nat.{not-suc-le-zero}
+use native.Mathlib.Omega.{arith}
 use lib.ListN.{length, drop}
 use Rattle.net_file.specs.Read.{Parser, then, _>>=_, give, timesFrom, times}
 use Rattle.stored.specs.Laws.{Stands}
@@ -99,3 +100,31 @@ module _ {A : Type 0} (p : Parser A) (s : List ℕ) where
 
   pub times-3 : {B : Type 0} (f : A → A → A → B) → Same s (p >>= λ x. p >>= λ y. p >>= λ z. give (f x y z)) (times 3 p)
   times-3 f = more-same 2 (λ x. p >>= λ y. p >>= λ z. give (f x y z)) (λ x. times-2 (f x))
+
+  -- ---- pairs of parts
+
+  abbrev pub pair : Parser (A × A)
+  pair = p >>= λ a. p >>= λ b. give (a, b)
+
+  paired : {B : Type 0} (f : A × A → Parser B) (bs : List ℕ) → (pair >>= f) bs ≡ (p >>= λ a. p >>= λ b. f (a, b)) bs
+  paired {B} f bs = first (p bs)
+    where
+      second : (a : A) (o : Option (A × List ℕ)) → then (then o (λ b. give (a, b))) f ≡ then o (λ b. f (a, b))
+      second a none = refl
+      second a (some q) = refl
+
+      first : (o : Option (A × List ℕ)) → then (then o (λ a. p >>= λ b. give (a, b))) f ≡ then o (λ a. p >>= λ b. f (a, b))
+      first none = refl
+      first (some q) = second (q .0) (p (q .1))
+
+  -- n pairs end where 2 n parts end
+  pub pairs-same : (n : ℕ) → Same s (times n pair) (times (2 * n) p)
+  unfolding times timesFrom place
+  pairs-same zero bs = refl
+  pairs-same (suc n) bs =
+      let e : 2 * suc n ≡ suc (suc (2 * n)) = omega arith in
+      ap (λ (q : Parser (List (A × A))). place s (q bs)) (times-suc pair n)
+      ∙ ap (place s) (paired (λ x. times n pair >>= λ xs. give (x ∷ xs)) bs)
+      ∙ more-same (suc (2 * n)) (λ a. p >>= λ b. times n pair >>= λ xs. give ((a, b) ∷ xs))
+        (λ a. more-same (2 * n) (λ b. times n pair >>= λ xs. give ((a, b) ∷ xs)) (λ b cs. same-map s (times n pair) (λ xs. (a, b) ∷ xs) cs ∙ pairs-same n cs)) bs
+      ∙ ap (λ m. place s (times m p bs)) (sym e)

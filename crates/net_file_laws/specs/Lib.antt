@@ -1,0 +1,12 @@
+pub mod Bytes
+pub mod Exact
+pub mod Parts
+pub mod Rules
+pub mod Flat
+pub mod Trees
+pub mod Body
+pub mod Header
+pub mod RoundTrip
+pub mod Honest
+pub mod Depth
+pub mod Met

@@ -1,0 +1,1 @@
+// Where each part of a tree file stands. Definitions and laws only, in specs/.
