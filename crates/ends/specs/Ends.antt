@@ -13,6 +13,10 @@ use Rattle.stored.specs.Stored.{tableEnd, listEnd, pathEnd, nameEnd, nodeEnd, p
 abbrev pub within : List ℕ → ℕ → ℕ
 within s x = min (length s) x
 
+-- k bytes on
+abbrev pub on : List ℕ → ℕ → ℕ → ℕ
+on s at k = within s (at + k)
+
 -- ---- each part ends after it begins
 
 module _ (s : List ℕ) where

@@ -1,7 +1,21 @@
 // The place after each part of a flat file, by the counts that stand there; where that is past the end, the end.
 ghost use mathlib.Core.Path.{_≡_};
 ghost use Rattle.stored.specs.Stored.{tableEnd, listEnd, pathEnd, nameEnd, nodeEnd, ruleEnd, pairCountAt, nodeCountAt, flatNetEnd};
-ghost use Rattle.ends.specs.Ends.{within};
+ghost use Rattle.ends.specs.Ends.{within, on};
+
+// k bytes on.
+pub fn on(s: &[u8], at: usize, k: usize) -> usize
+    ensures { λ r. ⌜ r ≡ on (now (s .entry)) at k ⌝ }
+{
+    let n = s.len();
+    if n <= at {
+        return n;
+    }
+    if n - at < k {
+        return n;
+    }
+    at + k
+}
 
 // A count of one byte, then as many numbers of two.
 pub fn list_end(s: &[u8], at: usize) -> usize
