@@ -1,13 +1,13 @@
 -- How check 7 goes over a flat net, by offsets. What it means is in `wiring_laws`.
 use Prim.Native.Nat.{ℕ, zero, suc, _+_, _*_}
-use mathlib.Core.Bool.{Bool, true, false, _&&_}
+use mathlib.Core.Bool.{Bool, _&&_}
 use mathlib.Core.List.{List, [], _∷_, _++_}
 use lib.ListN.{length, getD}
 use lib.Dec.{eqb}
-use Rattle.words.specs.Choose.{if-lt, pick}
+use Rattle.words.specs.Choose.{if-lt}
 use Rattle.net_file.specs.Lists.{all}
 use Rattle.fields.specs.Fields.{byte, be16}
-use Rattle.stored.specs.Stored.{numbersAt, nameEnd, nodeEnd, pairsAt, pairCountAt, nodeCountAt, flatNetEnd}
+use Rattle.stored.specs.Stored.{numbersAt, nameEnd, nodeEnd, pairsAt, pairCountAt, nodeCountAt}
 use Rattle.ends.specs.Ends.{within, on}
 use Rattle.tally.specs.Tally.{tally}
 
@@ -55,11 +55,3 @@ netTallied counts base s at = tally (tally (tally counts base (freeWires s at)) 
 -- whether its wires were seen as they should
 unfoldable pub netWired : List ℕ → ℕ → List ℕ → ℕ → Bool
 netWired counts base s at = all (alike counts) (netPairs s at) && all (twice counts base) (freeWires s at) && all (twice counts base) (netNodes s at)
-
--- n nets, each above a base of its own
-unfoldable pub netsWired : List ℕ → ℕ → List ℕ → ℕ → ℕ → Bool
-netsWired counts base s at zero = true
-netsWired counts base s at (suc n) =
-    let c = netTallied counts base s at in
-    let r = netsWired c (base + 4) s (within s (flatNetEnd s at)) n in
-    pick (netWired c base s at) r false

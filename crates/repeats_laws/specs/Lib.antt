@@ -1,0 +1,11 @@
+pub mod Runs
+pub mod Arrays
+pub mod Find
+pub mod Fresh
+pub mod Grow
+pub mod Items
+pub mod Exact
+pub mod Paths
+pub mod Numbers
+pub mod Names
+pub mod Many

@@ -1,0 +1,1 @@
+// What `repeats` answers means. Definitions and laws only, in specs/.
