@@ -69,8 +69,8 @@ module _ (s : List ℕ) (at : ℕ) where
 table-within : (s : List ℕ) (at n : ℕ) → within s (tableEnd (nodeEnd s) (within s at) n) ≡ within s (tableEnd (nodeEnd s) at n)
 table-within s at n = elim (decLt (length s) at) [
   | yes l ↦
-    let k : within s at ≡ length s = omega arith in
-    rw k (omega (arith, table-up (nodeEnd s) (node-up s) (length s) n, table-up (nodeEnd s) (node-up s) at n))
+      let k : within s at ≡ length s = omega arith in
+      rw k (omega (arith, table-up (nodeEnd s) (node-up s) (length s) n, table-up (nodeEnd s) (node-up s) at n))
   | no l ↦ let k : within s at ≡ at = omega arith in rw k
 ]
 

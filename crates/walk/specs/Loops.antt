@@ -126,5 +126,5 @@ module _ {A : Type 0} (p : Parser A) (s : List ℕ) where
       ap (λ (q : Parser (List (A × A))). place s (q bs)) (times-suc pair n)
       ∙ ap (place s) (paired (λ x. times n pair >>= λ xs. give (x ∷ xs)) bs)
       ∙ more-same (suc (2 * n)) (λ a. p >>= λ b. times n pair >>= λ xs. give ((a, b) ∷ xs))
-        (λ a. more-same (2 * n) (λ b. times n pair >>= λ xs. give ((a, b) ∷ xs)) (λ b cs. same-map s (times n pair) (λ xs. (a, b) ∷ xs) cs ∙ pairs-same n cs)) bs
+      (λ a. more-same (2 * n) (λ b. times n pair >>= λ xs. give ((a, b) ∷ xs)) (λ b cs. same-map s (times n pair) (λ xs. (a, b) ∷ xs) cs ∙ pairs-same n cs)) bs
       ∙ ap (λ m. place s (times m p bs)) (sym e)

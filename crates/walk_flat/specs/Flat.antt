@@ -78,7 +78,7 @@ module _ {A : Type 0} (s : List ℕ) (p : Parser A) (at m : ℕ) where
   many-2-on k w i h e l ew =
       ew ∙ ap (λ n. after (at + 2) (times n p) s) e
       ∙ sym (after-bind (below 2 (suc m)) (λ n. times n p) s at (be16 s at) (at + 2) (omega arith)
-        (below-in 2 (suc m) (drop at s) _ _ (in-2 s at (omega arith)) (omega arith)) (omega arith))
+      (below-in 2 (suc m) (drop at s) _ _ (in-2 s at (omega arith)) (omega arith)) (omega arith))
 
 -- ---- pairs
 

@@ -204,4 +204,3 @@ pub fn net_wired(counts: &[u32], base: u16, s: &[u8], at: usize) -> bool
     }
     false
 }
-
