@@ -92,6 +92,23 @@ module _ {A : Type 0} (s : List ℕ) (p : Parser A) (at m k : ℕ) where
       ∙ sym (after-bind (below 1 (suc m)) (λ n. times n p) s at (byte s at) (at + 1) (omega arith)
       (below-in 1 (suc m) (drop at s) _ _ (in-1 s at (omega arith)) (omega arith)) (omega arith))
 
+-- ---- a count of two bytes, at most m, then as many
+
+module _ {A : Type 0} (s : List ℕ) (p : Parser A) (at m : ℕ) where
+  pub many-2-short : length s < at + 2 → Bad ≡ after at (many 2 m p) s
+  many-2-short h = after-short s at (needs-many 2 m p) h
+
+  pub many-2-high : (k : ℕ) → 2 ≤ length s → at ≤ length s - 2 → k ≡ be16 s at → m < k → Bad ≡ after at (many 2 m p) s
+  unfolding many
+  many-2-high k i h e l = after-stop (below 2 (suc m)) (λ n. times n p) s at (omega arith) (below-high 2 (suc m) (drop at s) _ _ (in-2 s at (omega arith)) (omega arith))
+
+  pub many-2-on : (k : ℕ) (w : Walked) → 2 ≤ length s → at ≤ length s - 2 → k ≡ be16 s at → k ≤ m → w ≡ after (at + 2) (times k p) s → w ≡ after at (many 2 m p) s
+  unfolding many
+  many-2-on k w i h e l ew =
+      ew ∙ ap (λ n. after (at + 2) (times n p) s) e
+      ∙ sym (after-bind (below 2 (suc m)) (λ n. times n p) s at (be16 s at) (at + 2) (omega arith)
+      (below-in 2 (suc m) (drop at s) _ _ (in-2 s at (omega arith)) (omega arith)) (omega arith))
+
 -- ---- a name
 
 module _ (s : List ℕ) (at paths c : ℕ) where

@@ -9,7 +9,7 @@ use lib.Dec.{eqb}
 use Rattle.net_file.specs.Values.{Name, FlatNode, FlatNet}
 use Rattle.net_file.specs.Read.{Parser, _>>=_, give, below, times, many, readName, readNode, readPair, readFlatNet}
 use Rattle.fields.specs.Fields.{byte, be16, be32}
-use Rattle.stored.specs.Laws.{in-2, below-in, below-high, stands-below, stands-2, stands-many, stands-as, stands-numbers, table-steps}
+use Rattle.stored.specs.Laws.{stands-below, stands-2, stands-many, stands-as, stands-numbers, table-steps}
 use Rattle.stored.specs.Stored.{pairAt, listAt}
 use Rattle.stored.specs.Parts.{stands-name, stands-node, stands-pair, stands-net}
 use Rattle.walk.specs.declared.Walked.{Walked}
@@ -17,7 +17,7 @@ use Rattle.walk.specs.declared.Walked.the-variants.{At, Bad}
 use Rattle.walk.specs.After.{after, after-bind, after-stop, after-go, after-bad, after-map, after-same, same-map, same-bind, went}
 use Rattle.walk.specs.Room.{needs-next, needs-many, after-short}
 use Rattle.walk.specs.Loops.{times-more, pairs-same}
-use Rattle.walk.specs.Walk.{below-2, below-2-high}
+use Rattle.walk.specs.Walk.{below-2, below-2-high, many-2-on}
 use Rattle.walk_head.specs.Head.{readHead, stands-head, head-bad, head-go}
 
 -- a node's wires
@@ -62,23 +62,6 @@ module _ (s : List ℕ) (paths names wires at : ℕ) (m : Walked) (em : m ≡ af
 pub nodes-more : (s : List ℕ) (paths names wires at at′ k : ℕ) (r x : Walked) → after at (times k (readNode paths names wires)) s ≡ x → 0 < k
     → r ≡ after at (readNode paths names wires) s → r ≡ At at′ → after at′ (times (k - 1) (readNode paths names wires)) s ≡ x
 nodes-more s paths names wires at at′ k r x g h er ea = times-more (readNode paths names wires) s at at′ k _ _ r x (stands-node s paths names wires at) g h er ea
-
--- ---- a count of two bytes, at most m, then as many
-
-module _ {A : Type 0} (s : List ℕ) (p : Parser A) (at m : ℕ) where
-  pub many-2-short : length s < at + 2 → Bad ≡ after at (many 2 m p) s
-  many-2-short h = after-short s at (needs-many 2 m p) h
-
-  pub many-2-high : (k : ℕ) → 2 ≤ length s → at ≤ length s - 2 → k ≡ be16 s at → m < k → Bad ≡ after at (many 2 m p) s
-  unfolding many
-  many-2-high k i h e l = after-stop (below 2 (suc m)) (λ n. times n p) s at (omega arith) (below-high 2 (suc m) (drop at s) _ _ (in-2 s at (omega arith)) (omega arith))
-
-  pub many-2-on : (k : ℕ) (w : Walked) → 2 ≤ length s → at ≤ length s - 2 → k ≡ be16 s at → k ≤ m → w ≡ after (at + 2) (times k p) s → w ≡ after at (many 2 m p) s
-  unfolding many
-  many-2-on k w i h e l ew =
-      ew ∙ ap (λ n. after (at + 2) (times n p) s) e
-      ∙ sym (after-bind (below 2 (suc m)) (λ n. times n p) s at (be16 s at) (at + 2) (omega arith)
-      (below-in 2 (suc m) (drop at s) _ _ (in-2 s at (omega arith)) (omega arith)) (omega arith))
 
 -- ---- pairs
 

@@ -11,13 +11,13 @@ use lib.Dec.{eqb}
 use Rattle.words.specs.Choose.{if-lt}
 use Rattle.net_file.specs.Read.{Parser, then, _>>=_, give, number, below, readBit}
 use Rattle.fields.specs.Fields.{byte, be16, be32}
-use Rattle.stored.specs.Laws.{Stands, stands-bind, stands-give, stands-as, stands-2, stands-4, stands-below, in-1, in-4, below-in, below-high}
+use Rattle.stored.specs.Laws.{Stands, stands-bind, stands-give, stands-as, stands-2, stands-4, stands-below, in-4, below-in, below-high}
 use Rattle.stored.specs.Parts.{stands-bit}
 use Rattle.walk.specs.declared.Walked.{Walked}
 use Rattle.walk.specs.declared.Walked.the-variants.{At, Bad}
 use Rattle.walk.specs.After.{place, after, after-bind, after-stop, after-go, after-bad, after-give}
 use Rattle.walk.specs.Room.{needs-next, needs-first, needs-below, after-short}
-use Rattle.walk.specs.Walk.{below-2, below-2-high}
+use Rattle.walk.specs.Walk.{below-2, below-2-high, bit-in, bit-high}
 
 -- the wire counter is at most 65,536
 unfoldable pub readHead : ℕ → Parser (ℕ × Bool × ℕ)
@@ -34,17 +34,6 @@ module _ (s : List ℕ) (names at : ℕ) where
       stands-bind _ (stands-below s 2 names _ _ _ (stands-2 s at))
       (stands-bind _ (stands-as (stands-bit s (at + 2)) refl e)
       (stands-bind _ (stands-as (stands-below s 4 65537 _ _ _ (stands-4 s (at + 3))) refl f) stands-give))
-
--- ---- its fields
-
-module _ (s : List ℕ) (at : ℕ) where
-  bit-in : at + 1 ≤ length s → byte s at < 2 → readBit (drop at s) ≡ some (eqb (byte s at) 1, drop (at + 1) s)
-  unfolding readBit
-  bit-in h l = rw (below-in 1 2 (drop at s) _ _ (in-1 s at h) l)
-
-  bit-high : at + 1 ≤ length s → 2 ≤ byte s at → readBit (drop at s) ≡ none
-  unfolding readBit
-  bit-high h l = rw (below-high 1 2 (drop at s) _ _ (in-1 s at h) l)
 
 -- ---- each way out of the walk
 

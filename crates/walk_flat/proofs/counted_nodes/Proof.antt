@@ -1,4 +1,4 @@
-use Rattle.walk_flat.specs.Flat.{many-2-short, many-2-high, many-2-on}
+use Rattle.walk.specs.Walk.{many-2-short, many-2-high, many-2-on}
 use native.Mathlib.Omega.{arith}
 use borrow.Author.Needs.{needs}
 use Rattle.walk_flat.proofs.counted_nodes.Statement.{statement}

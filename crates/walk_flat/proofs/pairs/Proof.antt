@@ -1,4 +1,5 @@
-use Rattle.walk_flat.specs.Flat.{many-2-short, pairs-on}
+use Rattle.walk.specs.Walk.{many-2-short}
+use Rattle.walk_flat.specs.Flat.{pairs-on}
 use native.Mathlib.Omega.{arith}
 use borrow.Author.Needs.{needs}
 use Rattle.walk_flat.proofs.pairs.Statement.{statement}
