@@ -3,28 +3,7 @@ use walk::Walked;
 ghost use mathlib.Core.Path.{_≡_};
 ghost use Rattle.net_file.specs.Read.{many, readRule};
 ghost use Rattle.walk.specs.After.{after};
-ghost use Rattle.tables.specs.Tables.{Tables, readPathTable, readNameTable, tablesOf};
-
-// Where the name count and the net count stand, or that the tables cannot be read.
-pub enum Tables {
-    At(usize, usize),
-    Bad,
-}
-
-// The limit and the path table, of which at most 255 differ from the free path; then the name count stands.
-pub fn path_table(s: &[u8]) -> Walked
-    ensures { λ r. ⌜ r ≡ after 5 readPathTable (now (s .entry)) ⌝ }
-{
-    if s.len() < 11 {
-        return Walked::Bad;
-    }
-    let n = fields::be16(s, 9);
-    let w = walk_paths::paths(s, 11, n as u32);
-    if 255 < free_path::others(s, 11, n as u32) {
-        return Walked::Bad;
-    }
-    w
-}
+ghost use Rattle.tables.specs.Tables.{readNameTable};
 
 // The name table over np paths.
 pub fn name_table(s: &[u8], at: usize, np: u32) -> Walked
