@@ -20,26 +20,42 @@ on s at k = within s (at + k)
 -- ---- each part ends after it begins
 
 module _ (s : List ℕ) where
-  list-past : (at : ℕ) → at < listEnd s at
+  pub list-past : (at : ℕ) → at < listEnd s at
   unfolding listEnd
   list-past at = omega arith
 
-  name-past : (at : ℕ) → at + 10 < nameEnd s at
+  pub name-past : (at : ℕ) → at + 10 < nameEnd s at
   unfolding nameEnd
   name-past at = list-past (at + 10)
 
-  node-past : (at : ℕ) → nameEnd s at + 2 < nodeEnd s at
+  pub node-past : (at : ℕ) → nameEnd s at + 2 < nodeEnd s at
   unfolding nodeEnd
   node-past at = list-past (nameEnd s at + 2)
 
-  node-up : (at : ℕ) → at ≤ nodeEnd s at
+  pub node-up : (at : ℕ) → at ≤ nodeEnd s at
   node-up at = omega (arith, name-past at, node-past at)
 
 -- a table ends no earlier than it begins
-table-up : (end : ℕ → ℕ) → ((at : ℕ) → at ≤ end at) → (at n : ℕ) → at ≤ tableEnd end at n
+pub table-up : (end : ℕ → ℕ) → ((at : ℕ) → at ≤ end at) → (at n : ℕ) → at ≤ tableEnd end at n
 unfolding tableEnd
 table-up end h at zero = omega arith
 table-up end h at (suc n) = omega (arith, h at, table-up end h (end at) n)
+
+module _ (s : List ℕ) (at : ℕ) where
+  pub free-past : at + 7 < pairCountAt s at
+  unfolding pairCountAt
+  free-past = list-past s (at + 7)
+
+  pub pairs-past : pairCountAt s at + 2 ≤ nodeCountAt s at
+  unfolding nodeCountAt
+  pairs-past = omega arith
+
+  pub nodes-past : nodeCountAt s at + 2 ≤ flatNetEnd s at
+  unfolding flatNetEnd
+  nodes-past = table-up (nodeEnd s) (node-up s) (nodeCountAt s at + 2) (be16 s (nodeCountAt s at))
+
+  pub net-up : at ≤ flatNetEnd s at
+  net-up = omega (arith, free-past, pairs-past, nodes-past)
 
 -- ---- where a part begins past the end, or at it, the answer is the end
 
