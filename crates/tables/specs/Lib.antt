@@ -1,1 +1,3 @@
+pub mod Others
 pub mod Tables
+pub mod Whole

@@ -12,22 +12,21 @@ use Rattle.net_file.specs.Lists.{count, eqs}
 use Rattle.net_file.specs.Values.{Name, freePath}
 use Rattle.net_file.specs.Read.{Parser, then, _>>=_, such, number, below, times, timesFrom, many, readPath, readName, readRule, pathsFit}
 use Rattle.fields.specs.Fields.{be16, be32}
-use Rattle.stored.specs.Stored.{tableAt, tableEnd, pathAt, pathEnd, nameAt, nameEnd}
-use Rattle.stored.specs.Laws.{Stands, stands-bind, in-2, in-4, below-in, below-high, below-out, run-out, stands-4, stands-2, stands-below, stands-many, stands-times}
+use Rattle.stored.specs.Stored.{tableAt, tableEnd, pathAt, pathEnd, nameAt, nameEnd, nameCountAt}
+use Rattle.stored.specs.Laws.{Stands, stands-bind, stands-such, in-2, in-4, below-in, below-high, below-out, run-out, stands-4, stands-2, stands-below, stands-many, stands-times}
 use Rattle.stored.specs.Parts.{stands-path}
+use Rattle.stored.specs.Body.{pathsAt}
 use Rattle.walk.specs.declared.Walked.{Walked}
 use Rattle.walk.specs.declared.Walked.the-variants.{At, Bad}
 use Rattle.walk.specs.After.{after, after-past, after-bind, after-stop, after-bad, after-unfit, after-fit, after-check-bad, went}
 use Rattle.walk.specs.Room.{needs-next, needs-first, needs-below, needs-many, after-short}
 use Rattle.walk.specs.Walk.{many-2-short, many-2-high, many-2-on}
+use Rattle.free_path.specs.FreePath.{others}
+use Rattle.tables.specs.Others.{others-exact}
 
--- the limit, then the path table
-unfoldable pub readPaths : Parser (List (List ℕ))
-readPaths = number 4 >>= λ l. many 2 65535 readPath
-
--- of which at most 255 differ from the free path
+-- the path table, of which at most 255 differ from the free path
 unfoldable pub readPathTable : Parser (List (List ℕ))
-readPathTable = readPaths >>= λ ps. such (pathsFit ps) ps
+readPathTable = many 2 65535 readPath >>= λ ps. such (pathsFit ps) ps
 
 unfoldable pub readNameTable : ℕ → Parser (List Name)
 readNameTable np = below 2 1025 >>= λ n. timesFrom (readName np) 0 n
@@ -55,37 +54,38 @@ module _ (s : List ℕ) (at np : ℕ) where
 
 module _ (s : List ℕ) where
   -- the paths, where they stand
-  abbrev pub paths : List (List ℕ)
-  paths = tableAt (pathAt s) (pathEnd s) 11 (be16 s 9)
+  stands-paths : Stands s (many 2 65535 readPath) 9 (pathsAt s) (nameCountAt s)
+  unfolding pathsAt nameCountAt
+  stands-paths = stands-many s 2 65535 readPath (pathAt s) (pathEnd s) 9 _ _ (stands-2 s 9) (stands-path s)
 
-  pub stands-paths : Stands s readPaths 5 paths (tableEnd (pathEnd s) 11 (be16 s 9))
-  unfolding readPaths
-  stands-paths = stands-bind _ (stands-4 s 5) (stands-many s 2 65535 readPath (pathAt s) (pathEnd s) 9 _ _ (stands-2 s 9) (stands-path s))
-
-  paths-short : length s < 11 → Bad ≡ after 5 readPaths s
-  unfolding readPaths
-  paths-short h = after-short s 5 (needs-next 4 (λ l. many 2 65535 readPath) (stands-4 s) (λ l. needs-many 2 65535 readPath)) h
-
-  -- the walk over the paths is the walk over the limit and the path table
-  paths-on : (k : ℕ) (w : Walked) → 11 ≤ length s → k ≡ be16 s 9 → k < 65536 → w ≡ after 11 (times k readPath) s → w ≡ after 5 readPaths s
-  unfolding readPaths
-  paths-on k w h e l ew =
-      many-2-on s readPath 9 65535 k w (omega arith) (omega arith) e (omega arith) ew
-      ∙ sym (after-bind (number 4) (λ x. many 2 65535 readPath) s 5 (be32 s 5) 9 (omega arith) (in-4 s 5 (omega arith)) (omega arith))
-
-  pub path-table-short : length s < 11 → Bad ≡ after 5 readPathTable s
+  pub stands-path-table : Stands s readPathTable 9 (pathsAt s) (nameCountAt s)
   unfolding readPathTable
-  path-table-short h = after-check-bad readPaths pathsFit s 5 (paths-short h)
+  stands-path-table = stands-bind _ stands-paths (stands-such (pathsFit (pathsAt s)))
+
+  pub path-table-short : length s < 11 → Bad ≡ after 9 readPathTable s
+  unfolding readPathTable
+  path-table-short h = after-check-bad (many 2 65535 readPath) pathsFit s 9 (many-2-short s readPath 9 65535 h)
 
   module _ (k : ℕ) (w : Walked) (h : 11 ≤ length s) (e : k ≡ be16 s 9) (l : k < 65536) (ew : w ≡ after 11 (times k readPath) s) where
-    pub path-table-bad : w ≡ Bad → Bad ≡ after 5 readPathTable s
+    counted : w ≡ after 9 (many 2 65535 readPath) s
+    counted = many-2-on s readPath 9 65535 k w (omega arith) (omega arith) e (omega arith) ew
+
+    pub path-table-bad : w ≡ Bad → Bad ≡ after 9 readPathTable s
     unfolding readPathTable
-    path-table-bad b = after-check-bad readPaths pathsFit s 5 (sym b ∙ paths-on k w h e l ew)
+    path-table-bad b = after-check-bad (many 2 65535 readPath) pathsFit s 9 (sym b ∙ counted)
 
-    pub path-table-many : 255 < count (λ p. not (eqs freePath p)) paths → Bad ≡ after 5 readPathTable s
-    unfolding readPathTable pathsFit
-    path-table-many o = after-unfit readPaths pathsFit s 5 stands-paths w (paths-on k w h e l ew) (lt-leb _ _ o)
+    module _ (m c : ℕ) (wa : w ≡ At m) (ec : c ≡ others s 11 k) where
+      -- the others are counted among what was read
+      exactly : c ≡ count (λ p. not (eqs freePath p)) (pathsAt s)
+      unfolding pathsAt
+      exactly =
+          let y = went w m (stands-times s readPath (pathAt s) (pathEnd s) (stands-path s) k 11) ew wa in
+          ec ∙ others-exact s 11 k _ _ (y .read) h ∙ ap (λ n. count (λ p. not (eqs freePath p)) (tableAt (pathAt s) (pathEnd s) 11 n)) e
 
-    pub path-table-on : count (λ p. not (eqs freePath p)) paths ≤ 255 → w ≡ after 5 readPathTable s
-    unfolding readPathTable pathsFit
-    path-table-on o = after-fit readPaths pathsFit s 5 stands-paths w (paths-on k w h e l ew) (le-leb _ _ o)
+      pub path-table-many : 255 < c → Bad ≡ after 9 readPathTable s
+      unfolding readPathTable pathsFit
+      path-table-many o = after-unfit (many 2 65535 readPath) pathsFit s 9 stands-paths w counted (lt-leb _ _ (rw exactly at o))
+
+      pub path-table-on : c ≤ 255 → At m ≡ after 9 readPathTable s
+      unfolding readPathTable pathsFit
+      path-table-on o = sym wa ∙ after-fit (many 2 65535 readPath) pathsFit s 9 stands-paths w counted (le-leb _ _ (rw exactly at o))

@@ -3,7 +3,27 @@ use walk::Walked;
 ghost use mathlib.Core.Path.{_≡_};
 ghost use Rattle.net_file.specs.Read.{many, readRule};
 ghost use Rattle.walk.specs.After.{after};
-ghost use Rattle.tables.specs.Tables.{readNameTable};
+ghost use Rattle.tables.specs.Tables.{readPathTable, readNameTable};
+
+// The path table, of which at most 255 differ from the free path.
+pub fn path_table(s: &[u8]) -> Walked
+    ensures { λ r. ⌜ r ≡ after 9 readPathTable (now (s .entry)) ⌝ }
+{
+    if s.len() < 11 {
+        return Walked::Bad;
+    }
+    let n = fields::be16(s, 9);
+    let w = walk_paths::paths(s, 11, n as u32);
+    match w {
+        Walked::At(m) => {
+            if 255 < free_path::others(s, 11, n as u32) {
+                return Walked::Bad;
+            }
+            Walked::At(m)
+        }
+        Walked::Bad => Walked::Bad,
+    }
+}
 
 // The name table over np paths.
 pub fn name_table(s: &[u8], at: usize, np: u32) -> Walked

@@ -1,0 +1,2 @@
+pub mod FreePath
+pub mod Steps

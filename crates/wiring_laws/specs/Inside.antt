@@ -1,0 +1,116 @@
+-- Every wire of a net that is read is below 65,536, since it is below the net's counter.
+use Prim.Native.Nat.{ℕ, zero, suc, _<_, _≤_}
+use mathlib.Core.Path.{_≡_, refl, ap}
+use mathlib.Core.Bool.{Bool, true, false}
+use mathlib.Core.Option.{Option, some}
+use mathlib.Core.List.{List, [], _∷_, _++_}
+use native.Mathlib.Omega.{arith}
+use lib.Dec.{ltb}
+use borrow.Author.Tests.{ltb-true}
+use Rattle.net_file.specs.Lists.{concatMap}
+use Rattle.net_file.specs.Values.{FlatNet}
+use Rattle.net_file.specs.Read.{Parser, _>>=_, give, such, number, below, timesFrom, times, many, readBit, readName, readNode, readPair, readFlatNet}
+use Rattle.net_file.specs.Checks.{pairWires}
+use Rattle.stored.specs.Laws.{bound}
+use Rattle.tally.specs.Tally.{Inside}
+
+-- ---- lists
+
+pub inside-append : (n : ℕ) (xs ys : List ℕ) → Inside n xs → Inside n ys → Inside n (xs ++ ys)
+inside-append n [] ys h k = k
+inside-append n (x ∷ xs) ys h k = (h .0, inside-append n xs ys (h .1) k)
+
+-- a fact of each element
+abbrev pub Each : {A : Type 0} → (A → Type 0) → List A → Type 0
+Each P [] = Unit {0}
+Each P (x ∷ xs) = P x × Each P xs
+
+inside-each : (n b : ℕ) (ws : List ℕ) → b ≤ n → Each (λ w. w < b) ws → Inside n ws
+inside-each n b [] l h = tt
+inside-each n b (w ∷ ws) l h = (let k = h .0 in omega arith, inside-each n b ws l (h .1))
+
+inside-concat : {A : Type 0} (n : ℕ) (f : A → List ℕ) (xs : List A) → Each (λ x. Inside n (f x)) xs → Inside n (concatMap f xs)
+inside-concat n f [] h = tt
+inside-concat n f (x ∷ xs) h = inside-append n (f x) (concatMap f xs) (h .0) (inside-concat n f xs (h .1))
+
+-- ---- readers
+
+-- whatever p reads is so
+abbrev Reads : {A : Type 0} → Parser A → (A → Type 0) → Type 0
+Reads {A} p P = (bs : List ℕ) (x : A) (r : List ℕ) → p bs ≡ some (x, r) → P x
+
+-- two answers that are the same have the same value, and leave the same
+pub some-same : {A : Type 0} (x y : A) (q r : List ℕ) → _≡_ {A = Option (A × List ℕ)} (some (x, q)) (some (y, r)) → (x ≡ y) × (q ≡ r)
+some-same {A} x y q r e = let k : _≡_ {A = A × List ℕ} (x, q) (y, r) = cc in (ap (λ p. p .0) k, ap (λ p. p .1) k)
+
+give-reads : {A : Type 0} (P : A → Type 0) (a : A) → P a → Reads (give a) P
+give-reads P a h bs x r e = rw (some-same a x bs r e .0) at h
+
+below-reads : (k n : ℕ) → Reads (below k n) (λ w. w < n)
+unfolding below
+below-reads k n bs x r e =
+    let b = bound (number k) (λ y. such (ltb y n) y) bs x r e in
+    go (b .value) (b .rest) (ltb (b .value) n) refl (b .next)
+  where
+    go : (y : ℕ) (q : List ℕ) (t : Bool) → ltb y n ≡ t → such t y q ≡ some (x, r) → x < n
+    go y q true l f = rw (some-same y x q r f .0) at (ltb-true y n l)
+    go y q false l f = let z : _≡_ {A = ℕ} 0 1 = cc in absurd (omega arith)
+
+-- the second part, where the first is so
+bind-reads : {A B : Type 0} (p : Parser A) (f : A → Parser B) (P : A → Type 0) (Q : B → Type 0) → Reads p P → ((a : A) → P a → Reads (f a) Q) → Reads (p >>= f) Q
+bind-reads p f P Q h g bs x r e = let b = bound p f bs x r e in g (b .value) (h bs (b .value) (b .rest) (b .first)) (b .rest) x r (b .next)
+
+any-reads : {A : Type 0} (p : Parser A) → Reads p (λ x. Unit {0})
+any-reads p bs x r e = tt
+
+module _ {A : Type 0} (p : Parser A) (P : A → Type 0) (h : Reads p P) where
+  times-reads : (n i : ℕ) → Reads (timesFrom (λ j. p) i n) (Each P)
+  unfolding timesFrom
+  times-reads zero i = give-reads (Each P) [] tt
+  times-reads (suc n) i =
+      bind-reads p _ P (Each P) h (λ x k.
+      bind-reads (timesFrom (λ j. p) (suc i) n) _ (Each P) (Each P) (times-reads n (suc i)) (λ xs l.
+      give-reads (Each P) (x ∷ xs) (k, l)))
+
+  many-reads : (k m : ℕ) → Reads (many k m p) (Each P)
+  unfolding many times
+  many-reads k m = bind-reads (below k (suc m)) _ (λ n. Unit {0}) (Each P) (any-reads (below k (suc m))) (λ n u. times-reads n 0)
+
+-- ---- a net
+
+module _ (n b : ℕ) (l : b ≤ n) where
+  pair-reads : Reads (readPair b) (λ p. Inside n (p .0 ∷ p .1 ∷ []))
+  unfolding readPair
+  pair-reads =
+      bind-reads (below 2 b) _ (λ w. w < b) _ (below-reads 2 b) (λ x h.
+      bind-reads (below 2 b) _ (λ w. w < b) _ (below-reads 2 b) (λ y k.
+      give-reads _ (x, y) (omega arith, (omega arith, tt))))
+
+  node-reads : (paths names : ℕ) → Reads (readNode paths names b) (λ m. Inside n (m .pri ∷ m .aux))
+  unfolding readNode
+  node-reads paths names =
+      bind-reads (readName paths names) _ (λ x. Unit {0}) _ (any-reads (readName paths names)) (λ m u.
+      bind-reads (below 2 b) _ (λ w. w < b) _ (below-reads 2 b) (λ p h.
+      bind-reads (many 1 15 (below 2 b)) _ (Each (λ w. w < b)) _ (many-reads (below 2 b) (λ w. w < b) (below-reads 2 b) 1 15) (λ ws k.
+      give-reads _ (record { name = m; pri = p; aux = ws }) (omega arith, inside-each n b ws l k))))
+
+-- the wires of a net, place by place
+pub record Wires (n : ℕ) (x : FlatNet) : Type 0 where
+  pub frees : Inside n (x .free)
+  pub paired : Inside n (pairWires (x .pairs))
+  pub noded : Inside n (concatMap (λ m. m .pri ∷ m .aux) (x .nodes))
+
+pub net-reads : (paths names : ℕ) → Reads (readFlatNet paths names) (Wires 65536)
+unfolding readFlatNet pairWires
+net-reads paths names =
+    bind-reads (below 2 names) _ (λ x. Unit {0}) _ (any-reads (below 2 names)) (λ m u.
+    bind-reads readBit _ (λ x. Unit {0}) _ (any-reads readBit) (λ i u.
+    bind-reads (below 4 65537) _ (λ b. b < 65537) _ (below-reads 4 65537) (λ b l.
+    bind-reads (many 1 14 (below 2 b)) _ (Each (λ w. w < b)) _ (many-reads (below 2 b) (λ w. w < b) (below-reads 2 b) 1 14) (λ fs f.
+    bind-reads (many 2 65535 (readPair b)) _ (Each (λ p. Inside 65536 (p .0 ∷ p .1 ∷ []))) _ (many-reads (readPair b) _ (pair-reads 65536 b (omega arith)) 2 65535) (λ ps g.
+    bind-reads (many 2 4096 (readNode paths names b)) _ (Each (λ y. Inside 65536 (y .pri ∷ y .aux))) _ (many-reads (readNode paths names b) _ (node-reads 65536 b (omega arith) paths names) 2 4096) (λ ns h.
+    give-reads (Wires 65536) (record { name = m; included = i; wires = b; free = fs; pairs = ps; nodes = ns }) (record {
+      frees = inside-each 65536 b fs (omega arith) f;
+      paired = inside-concat 65536 _ ps g;
+      noded = inside-concat 65536 _ ns h;
+    })))))))

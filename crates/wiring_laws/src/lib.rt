@@ -1,0 +1,1 @@
+// What check 7 answers means. Laws only, in specs/.
