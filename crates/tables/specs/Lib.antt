@@ -1,3 +1,4 @@
 pub mod Others
 pub mod Tables
 pub mod Whole
+pub mod Steps

@@ -4,6 +4,8 @@ ghost use mathlib.Core.Path.{_≡_};
 ghost use Rattle.net_file.specs.Read.{many, readRule};
 ghost use Rattle.walk.specs.After.{after};
 ghost use Rattle.tables.specs.Tables.{readPathTable, readNameTable};
+ghost use Rattle.tables.specs.Whole.{readTables};
+ghost use Rattle.tables.specs.Steps.{tablesAt};
 
 // The path table, of which at most 255 differ from the free path.
 pub fn path_table(s: &[u8]) -> Walked
@@ -57,4 +59,30 @@ pub fn rule_table(s: &[u8], at: usize, np: u32) -> Walked
         return Walked::Bad;
     }
     walk_rules::rules(s, at + 2, n as u32, np)
+}
+
+// Where the name count and the net count stand, or that the tables cannot be read.
+pub enum Found {
+    At(usize, usize),
+    Bad,
+}
+
+// All that both versions have before their nets.
+pub fn tables(s: &[u8]) -> Found
+    ensures { λ r. ⌜ r ≡ tablesAt (now (s .entry)) (after 5 readTables (now (s .entry))) ⌝ }
+{
+    let p = path_table(s);
+    let Walked::At(m) = p else {
+        return Found::Bad;
+    };
+    let np = fields::be16(s, 9) as u32;
+    let n = name_table(s, m, np);
+    let Walked::At(r) = n else {
+        return Found::Bad;
+    };
+    let t = rule_table(s, r, np);
+    match t {
+        Walked::At(q) => Found::At(m, q),
+        Walked::Bad => Found::Bad,
+    }
 }
