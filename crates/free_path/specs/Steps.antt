@@ -11,7 +11,7 @@ use lib.ListN.{length, getD, drop, drop-of-length-le}
 use lib.Seq.{drop-cons}
 use lib.Dec.{eqb}
 use borrow.Author.Tests.{eq-eqb, ne-eqb}
-use Rattle.words.specs.Choose.{pick, pick-true, pick-false}
+use Rattle.words.specs.Choose.{pick-true, pick-false}
 use Rattle.net_file.specs.Lists.{bit, eqs}
 use Rattle.net_file.specs.Values.{freePath}
 use Rattle.fields.specs.Fields.{byte, byte-past}

@@ -1,0 +1,4 @@
+pub mod Paths
+pub mod Read
+pub mod Places
+pub mod Named

@@ -1,0 +1,60 @@
+-- How check 6 goes over the pairs of a flat net and over flat nets, by offsets. What it means is in `orders_laws`.
+-- A list ascends where each is at least `last`, which is one more than the one before it and 0 at first.
+use Prim.Native.Nat.{ℕ, zero, suc, _+_}
+use mathlib.Core.Bool.{Bool, true, false}
+use mathlib.Core.List.{List, [], _∷_}
+use lib.ListN.{getD, replicate}
+use lib.Dec.{ltb}
+use Rattle.words.specs.Choose.{pick, if-lt}
+use Rattle.words.specs.Left.{Left}
+use Rattle.fields.specs.Fields.{be16}
+use Rattle.stored.specs.Stored.{flatNetEnd}
+use Rattle.ends.specs.Ends.{within}
+use Rattle.tally.specs.Tally.{bump}
+use Rattle.wiring.specs.Wiring.{netPairs}
+
+-- w was seen since the base
+unfoldable pub marked : List ℕ → ℕ → ℕ → Bool
+marked counts base w = ltb base (getD counts w 0)
+
+-- a is not below last, a is below b, and neither was seen
+unfoldable pub pairFits : List ℕ → ℕ → ℕ → ℕ → ℕ → Bool
+pairFits counts base last a b =
+    if-lt a last false
+    (if-lt a b
+    (pick (marked counts base a) false
+    (pick (marked counts base b) false true)) false)
+
+-- a pair that fits is seen from then on; at one that does not, the counts stay
+unfoldable pub pairStep : List ℕ → ℕ → ℕ → ℕ → ℕ → Left Bool
+pairStep counts base last a b =
+    pick (pairFits counts base last a b)
+    (record { is = true; ws = bump (bump counts base a) base b })
+    (record { is = false; ws = counts })
+
+-- whether all fit, and the counts at the end or at the first that does not
+unfoldable pub pairsFrom : List ℕ → ℕ → ℕ → List (ℕ × ℕ) → Left Bool
+pairsFrom counts base last [] = record { is = true; ws = counts }
+pairsFrom counts base last (p ∷ ps) =
+    let x = pairStep counts base last (p .0) (p .1) in
+    let r = pairsFrom (x .ws) base (p .0 + 1) ps in
+    pick (x .is) r (record { is = false; ws = x .ws })
+
+-- one net: its name is not below last, and its pairs fit
+unfoldable pub netOrdered : List ℕ → ℕ → ℕ → List ℕ → ℕ → Left Bool
+netOrdered counts base last s at =
+    if-lt (be16 s at) last
+    (record { is = false; ws = counts })
+    (pairsFrom counts base 0 (netPairs s at))
+
+-- each net above a base of its own
+unfoldable pub netsFrom : List ℕ → ℕ → ℕ → List ℕ → ℕ → ℕ → Bool
+netsFrom counts base last s at zero = true
+netsFrom counts base last s at (suc n) =
+    let x = netOrdered counts base last s at in
+    let r = netsFrom (x .ws) (base + 4) (be16 s at + 1) s (within s (flatNetEnd s at)) n in
+    pick (x .is) r false
+
+-- at most 256 nets
+unfoldable pub netsOrdered : List ℕ → ℕ → ℕ → Bool
+netsOrdered s at n = if-lt 256 n false (netsFrom (replicate 65536 0) 0 0 s at n)

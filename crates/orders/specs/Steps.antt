@@ -1,0 +1,120 @@
+-- Each way out of the loops of check 6.
+use Prim.Native.Nat.{ℕ, zero, suc, _+_, _*_, _-_, _/_, _<_, _≤_}
+use mathlib.Core.Path.{_≡_, refl, sym, ap, _∙_}
+use mathlib.Core.Bool.{Bool, true, false}
+use mathlib.Core.List.{List, [], _∷_}
+use native.Mathlib.Omega.{arith}
+use native.Mathlib.Numerals.{sub-one}
+use native.Mathlib.Nat.{not-suc-le-zero}
+use lib.ListN.{length, getD, replicate}
+use lib.Dec.{ltb}
+use Rattle.words.specs.Choose.{pick, if-lt, lt-yes, lt-no}
+use Rattle.words.specs.Left.{Left, whole}
+use Rattle.fields.specs.Fields.{be16}
+use Rattle.stored.specs.Stored.{tableAt, pairAt, pairsAt, pairCountAt, flatNetEnd}
+use Rattle.ends.specs.Ends.{within, on}
+use Rattle.tally.specs.Tally.{bump}
+use Rattle.wiring.specs.Wiring.{pairRun, netPairs}
+use Rattle.orders.specs.Orders.{marked, pairFits, pairStep, pairsFrom, netOrdered, netsFrom, netsOrdered}
+
+-- ---- one pair
+
+pub marked-is : (counts : List ℕ) (base w c : ℕ) → c ≡ getD counts w 0 → ltb base c ≡ marked counts base w
+unfolding marked
+marked-is counts base w c e = ap (ltb base) e
+
+module _ (counts : List ℕ) (base last a b : ℕ) (t : Bool) (et : t ≡ pairFits counts base last a b) where
+  pub step-yes : (c d : List ℕ) → t ≡ true → c ≡ bump counts base a → d ≡ bump c base b → record { is = true; ws = d } ≡ pairStep counts base last a b
+  unfolding pairStep pick
+  step-yes c d y ec ed = rw (← et, y, ed, ec)
+
+  pub step-no : t ≡ false → record { is = false; ws = counts } ≡ pairStep counts base last a b
+  unfolding pairStep pick
+  step-no y = rw (← et, y)
+
+-- ---- pairs
+
+module _ (s counts : List ℕ) (base from n : ℕ) where
+  none : length s < from + 4 * n → record { is = true; ws = counts } ≡ pairsFrom counts base 0 (pairRun s from n)
+  unfolding pairRun pairsFrom
+  none h = ap (pairsFrom counts base 0) (lt-yes _ _ _ _ h refl)
+
+  pub pairs-past : length s < from → record { is = true; ws = counts } ≡ pairsFrom counts base 0 (pairRun s from n)
+  pairs-past h = none (omega arith)
+
+  pub pairs-short : from ≤ length s → (length s - from) / 4 < n → record { is = true; ws = counts } ≡ pairsFrom counts base 0 (pairRun s from n)
+  pairs-short i h = none (omega arith)
+
+  pub pairs-start : from ≤ length s → n ≤ (length s - from) / 4 → pairsFrom counts base 0 (pairsAt s from n) ≡ pairsFrom counts base 0 (pairRun s from n)
+  unfolding pairRun
+  pairs-start i h = ap (pairsFrom counts base 0) (lt-no _ _ _ _ (omega arith) refl)
+
+module _ (s counts c : List ℕ) (base last at a b : ℕ) (x : Left Bool) (t : Bool) where
+  pub pairs-more : (k : ℕ) → pairsFrom counts base last (pairsAt s at k) ≡ x → 0 < k → a ≡ be16 s at → b ≡ be16 s (at + 2)
+      → t ≡ pairStep counts base last a b .is → c ≡ pairStep counts base last a b .ws → t ≡ true → pairsFrom c base (a + 1) (pairsAt s (at + 4) (k - 1)) ≡ x
+  unfolding pairsAt tableAt pairAt pairsFrom pick
+  pairs-more zero g h ea eb et ec y = absurd (not-suc-le-zero h)
+  pairs-more (suc k) g h ea eb et ec y =
+      let w : pairStep counts base last (be16 s at) (be16 s (at + 2)) .is ≡ true = rw (ea, eb) at (sym et) ∙ y in
+      rw (sub-one, ec, ea, eb) (rw w at g)
+
+  pub pairs-no : (k : ℕ) → pairsFrom counts base last (pairsAt s at k) ≡ x → 0 < k → a ≡ be16 s at → b ≡ be16 s (at + 2)
+      → t ≡ pairStep counts base last a b .is → c ≡ pairStep counts base last a b .ws → t ≡ false → record { is = false; ws = c } ≡ x
+  unfolding pairsAt tableAt pairAt pairsFrom pick
+  pairs-no zero g h ea eb et ec y = absurd (not-suc-le-zero h)
+  pairs-no (suc k) g h ea eb et ec y =
+      let w : pairStep counts base last (be16 s at) (be16 s (at + 2)) .is ≡ false = rw (ea, eb) at (sym et) ∙ y in
+      rw (ec, ea, eb) (rw w at g)
+
+pub pairs-done : (s counts : List ℕ) (base last at k : ℕ) (x : Left Bool) → pairsFrom counts base last (pairsAt s at k) ≡ x → k ≤ 0 → record { is = true; ws = counts } ≡ x
+unfolding pairsAt tableAt pairsFrom
+pairs-done s counts base last at zero x g h = g
+pairs-done s counts base last at (suc k) x g h = absurd (not-suc-le-zero h)
+
+-- ---- a net
+
+pub pairs-are : (s counts c : List ℕ) (base at p k f : ℕ) (t : Bool) → p ≡ within s (pairCountAt s at) → k ≡ be16 s p → f ≡ on s p 2
+    → t ≡ pairsFrom counts base 0 (pairRun s f k) .is → c ≡ pairsFrom counts base 0 (pairRun s f k) .ws
+    → record { is = t; ws = c } ≡ pairsFrom counts base 0 (netPairs s at)
+unfolding netPairs
+pairs-are s counts c base at p k f t ep ek ef et ec = rw (ef, ek, ep) at (whole (pairsFrom counts base 0 (pairRun s f k)) et ec)
+
+module _ (s counts : List ℕ) (base last at m : ℕ) (em : m ≡ be16 s at) where
+  pub name-low : m < last → record { is = false; ws = counts } ≡ netOrdered counts base last s at
+  unfolding netOrdered
+  name-low h = lt-yes _ _ _ _ (omega arith) refl
+
+  pub name-up : (c : List ℕ) (t : Bool) → last ≤ m → t ≡ pairsFrom counts base 0 (netPairs s at) .is → c ≡ pairsFrom counts base 0 (netPairs s at) .ws
+      → record { is = t; ws = c } ≡ netOrdered counts base last s at
+  unfolding netOrdered
+  name-up c t h et ec = lt-no _ _ _ _ (omega arith) (whole (pairsFrom counts base 0 (netPairs s at)) et ec)
+
+-- ---- nets
+
+module _ (s counts c : List ℕ) (base last at : ℕ) (x t : Bool) where
+  pub nets-more : (a m k : ℕ) → netsFrom counts base last s at k ≡ x → 0 < k → t ≡ netOrdered counts base last s at .is → c ≡ netOrdered counts base last s at .ws → t ≡ true
+      → m ≡ be16 s at → a ≡ within s (flatNetEnd s at) → netsFrom c (base + 4) (m + 1) s a (k - 1) ≡ x
+  unfolding netsFrom pick
+  nets-more a m zero g h et ec y em ea = absurd (not-suc-le-zero h)
+  nets-more a m (suc k) g h et ec y em ea =
+      let w : netOrdered counts base last s at .is ≡ true = sym et ∙ y in
+      rw (sub-one, ec, em, ea) (rw w at g)
+
+  pub nets-no : (k : ℕ) → netsFrom counts base last s at k ≡ x → 0 < k → t ≡ netOrdered counts base last s at .is → t ≡ false → false ≡ x
+  unfolding netsFrom pick
+  nets-no zero g h et y = absurd (not-suc-le-zero h)
+  nets-no (suc k) g h et y = let w : netOrdered counts base last s at .is ≡ false = sym et ∙ y in rw w at g
+
+pub nets-done : (s counts : List ℕ) (base last at k : ℕ) (x : Bool) → netsFrom counts base last s at k ≡ x → k ≤ 0 → true ≡ x
+unfolding netsFrom
+nets-done s counts base last at zero x g h = g
+nets-done s counts base last at (suc k) x g h = absurd (not-suc-le-zero h)
+
+module _ (s : List ℕ) (at n : ℕ) where
+  pub nets-over : 256 < n → false ≡ netsOrdered s at n
+  unfolding netsOrdered
+  nets-over h = lt-yes _ _ _ _ h refl
+
+  pub nets-start : n ≤ 256 → netsFrom (replicate 65536 0) 0 0 s at n ≡ netsOrdered s at n
+  unfolding netsOrdered
+  nets-start h = lt-no _ _ _ _ h refl

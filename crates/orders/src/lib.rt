@@ -1,0 +1,118 @@
+// The orders of check 6 on flat nets: nets ascend by their names; a pair has its smaller wire first, pairs ascend by it, and no
+// wire is in two. `last` is one more than the name or wire before, and 0 at first. Wires are marked in a lent array of 65,536
+// words, above a base, as in `tally`.
+ghost use mathlib.Core.Path.{_≡_};
+ghost use Rattle.wiring.specs.Wiring.{pairRun, netPairs};
+ghost use Rattle.orders.specs.Orders.{marked, pairFits, pairStep, pairsFrom, netOrdered, netsOrdered};
+
+// Whether a wire was seen.
+fn marked(counts: &[u32], base: u16, w: u16) -> bool
+    ensures { λ r. ⌜ r ≡ marked (now (counts .entry)) base w ⌝ }
+{
+    let c = words::get(counts, w as usize);
+    (base as u32) < c
+}
+
+// Whether a pair may follow those before it.
+fn pair_fits(counts: &[u32], base: u16, last: u32, a: u16, b: u16) -> bool
+    ensures { λ r. ⌜ r ≡ pairFits (now (counts .entry)) base last a b ⌝ }
+{
+    if (a as u32) < last {
+        return false;
+    }
+    if b <= a {
+        return false;
+    }
+    if marked(counts, base, a) {
+        return false;
+    }
+    if marked(counts, base, b) {
+        return false;
+    }
+    true
+}
+
+// One pair.
+fn pair_step(counts: &mut [u32], base: u16, last: u32, a: u16, b: u16) -> bool
+    ensures { λ r. ⌜ (r ≡ pairStep (now (counts .entry)) base last a b .is) × (now (counts .exit) ≡ pairStep (now (counts .entry)) base last a b .ws) ⌝ }
+{
+    if pair_fits(counts, base, last, a, b) {
+        tally::bump(counts, base, a);
+        tally::bump(counts, base, b);
+        return true;
+    }
+    false
+}
+
+// n pairs, where all are there.
+pub fn pairs_run(counts: &mut [u32], base: u16, s: &[u8], from: usize, n: u32) -> bool
+    ensures { λ r. ⌜ (r ≡ pairsFrom (now (counts .entry)) base 0 (pairRun (now (s .entry)) from n) .is) × (now (counts .exit) ≡ pairsFrom (now (counts .entry)) base 0 (pairRun (now (s .entry)) from n) .ws) ⌝ }
+{
+    if s.len() < from {
+        return true;
+    }
+    if (s.len() - from) / 4 < n as usize {
+        return true;
+    }
+    let mut at = from;
+    let mut last: u32 = 0;
+    let mut k = n;
+    while 0 < k {
+        let a = fields::be16(s, at);
+        let b = fields::be16(s, at + 2);
+        if pair_step(counts, base, last, a, b) {
+            last = a as u32 + 1;
+            at += 4;
+            k -= 1;
+        } else {
+            return false;
+        }
+    }
+    true
+}
+
+// The pairs of the net at a place.
+pub fn net_pairs(counts: &mut [u32], base: u16, s: &[u8], at: usize) -> bool
+    ensures { λ r. ⌜ (r ≡ pairsFrom (now (counts .entry)) base 0 (netPairs (now (s .entry)) at) .is) × (now (counts .exit) ≡ pairsFrom (now (counts .entry)) base 0 (netPairs (now (s .entry)) at) .ws) ⌝ }
+{
+    let p = ends::pair_count_at(s, at);
+    let k = fields::be16(s, p);
+    let from = ends::on(s, p, 2);
+    pairs_run(counts, base, s, from, k as u32)
+}
+
+// One net.
+fn net_ordered(counts: &mut [u32], base: u16, last: u32, s: &[u8], at: usize) -> bool
+    ensures { λ r. ⌜ (r ≡ netOrdered (now (counts .entry)) base last (now (s .entry)) at .is) × (now (counts .exit) ≡ netOrdered (now (counts .entry)) base last (now (s .entry)) at .ws) ⌝ }
+{
+    let m = fields::be16(s, at);
+    if (m as u32) < last {
+        return false;
+    }
+    net_pairs(counts, base, s, at)
+}
+
+// n nets, one after another, each above a base of its own, so that the counts are never cleared.
+pub fn nets_ordered(s: &[u8], from: usize, n: u16) -> bool
+    ensures { λ r. ⌜ r ≡ netsOrdered (now (s .entry)) from n ⌝ }
+{
+    if 256 < n {
+        return false;
+    }
+    let mut counts = [0u32; 65536];
+    let mut at = from;
+    let mut base: u16 = 0;
+    let mut last: u32 = 0;
+    let mut k = n;
+    while 0 < k {
+        if net_ordered(&mut counts, base, last, s, at) {
+            last = fields::be16(s, at) as u32 + 1;
+            at = ends::flat_net_end(s, at);
+            base += 4;
+            k -= 1;
+        } else {
+            return false;
+        }
+    }
+    true
+}

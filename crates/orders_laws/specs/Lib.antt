@@ -1,0 +1,4 @@
+pub mod Ascend
+pub mod Pairs
+pub mod Flat
+pub mod Nets

@@ -1,0 +1,148 @@
+-- A flat file that is read, through its readers: each count, place and part is the one of what was read that it names.
+use Prim.Native.Nat.{ℕ, suc, _+_, _*_, _<_, _≤_}
+use mathlib.Core.Path.{_≡_, refl, sym, subst}
+use mathlib.Core.Option.{Option}
+use mathlib.Core.List.{List}
+use native.Mathlib.Omega.{arith}
+use lib.ListN.{length, getD}
+use Rattle.net_file.specs.Lists.{ok}
+use Rattle.net_file.specs.Values.{Name, Rule, FlatNet, File}
+use Rattle.net_file.specs.Read.{limitOf}
+use Rattle.net_file.specs.Checks.{flat, read}
+use Rattle.fields.specs.Fields.{byte, be16, be32}
+use Rattle.stored.specs.Stored.{tableAt, tableEnd, pathAt, pathEnd, nameAt, nameEnd, ruleAt, ruleEnd, flatNetAt, flatNetEnd, nameCountAt, ruleCountAt, netCountAt}
+use Rattle.stored.specs.Laws.{table-length}
+use Rattle.stored.specs.Parts.{stands-net}
+use Rattle.stored.specs.Body.{pathsAt, namesAt, rulesAt, netsAt, bodyAt, bodyEnd}
+use Rattle.ends.specs.Ends.{within}
+use Rattle.readers.specs.declared.Part.the-variants as part
+use Rattle.readers.specs.Readers.{partEnd}
+use Rattle.readers.specs.Places.{table-up, part-up}
+use Rattle.readers_laws.specs.Tables.{table-inside, table-next, table-read}
+use Rattle.readers_laws.specs.Parts.{PathStands, NameStands, NetStands, path-stands, name-stands, net-stands}
+use Rattle.readers_laws.specs.Rules.{RuleStands, rule-stands}
+use Rattle.readers_laws.specs.Reads.{read-stands, read-inside, read-tags}
+
+-- a is the place that the reader of the same name gives for k; it is never past the end, so that the readers' clamp is none
+pub record FlatStands (s : List ℕ) (f : File FlatNet) : Type 0 where
+  pub limit : f .limit ≡ limitOf (be32 s 5)
+  pub pathCount : length (f .paths) ≡ be16 s 9
+  pub pathInside : (k : ℕ) → k ≤ length (f .paths) → tableEnd (pathEnd s) 11 k ≤ length s
+  pub path : (k a : ℕ) (d : List ℕ) → k < length (f .paths) → a ≡ within s (tableEnd (pathEnd s) 11 k) → PathStands s (getD (f .paths) k d) a
+  pub nameCount : length (f .names) ≡ be16 s (nameCountAt s)
+  pub nameInside : (k : ℕ) → k ≤ length (f .names) → tableEnd (nameEnd s) (nameCountAt s + 2) k ≤ length s
+  pub name : (k a : ℕ) (d : Name) → k < length (f .names) → a ≡ within s (tableEnd (nameEnd s) (nameCountAt s + 2) k) → NameStands s (getD (f .names) k d) a
+  pub ruleCount : length (f .rules) ≡ be16 s (ruleCountAt s)
+  pub ruleInside : (k : ℕ) → k ≤ length (f .rules) → tableEnd (ruleEnd s) (ruleCountAt s + 2) k ≤ length s
+  pub rule : (k a : ℕ) (d : Rule) → k < length (f .rules) → a ≡ within s (tableEnd (ruleEnd s) (ruleCountAt s + 2) k) → RuleStands s (getD (f .rules) k d) a
+  pub netCount : length (f .nets) ≡ be16 s (netCountAt s)
+  pub netInside : (k : ℕ) → k ≤ length (f .nets) → tableEnd (flatNetEnd s) (netCountAt s + 2) k ≤ length s
+  pub net : (k a : ℕ) (d : FlatNet) → k < length (f .nets) → a ≡ within s (tableEnd (flatNetEnd s) (netCountAt s + 2) k) → NetStands s (getD (f .nets) k d) a
+
+module _ (s : List ℕ) (f : File FlatNet) (e : read flat s ≡ ok f) where
+  -- ---- each table ends inside the file, the last first
+
+  nets-end : tableEnd (flatNetEnd s) (netCountAt s + 2) (be16 s (netCountAt s)) ≤ length s
+  unfolding bodyEnd
+  nets-end = read-inside flat flatNetAt flatNetEnd s (stands-net s) f e
+
+  rules-end : tableEnd (ruleEnd s) (ruleCountAt s + 2) (be16 s (ruleCountAt s)) ≤ length s
+  unfolding netCountAt partEnd
+  rules-end = omega (arith, nets-end, table-up (flatNetEnd s) (part-up s part.Net) (netCountAt s + 2) (be16 s (netCountAt s)))
+
+  names-end : tableEnd (nameEnd s) (nameCountAt s + 2) (be16 s (nameCountAt s)) ≤ length s
+  unfolding ruleCountAt partEnd
+  names-end = omega (arith, rules-end, table-up (ruleEnd s) (part-up s part.Rule) (ruleCountAt s + 2) (be16 s (ruleCountAt s)))
+
+  paths-end : tableEnd (pathEnd s) 11 (be16 s 9) ≤ length s
+  unfolding nameCountAt partEnd
+  paths-end = omega (arith, names-end, table-up (nameEnd s) (part-up s part.Name) (nameCountAt s + 2) (be16 s (nameCountAt s)))
+
+  -- ---- the parts
+
+  body : File FlatNet
+  body = bodyAt flatNetAt flatNetEnd s
+
+  path-count : length (body .paths) ≡ be16 s 9
+  unfolding body bodyAt pathsAt
+  path-count = table-length s (pathAt s) (pathEnd s) 11 (be16 s 9)
+
+  name-count : length (body .names) ≡ be16 s (nameCountAt s)
+  unfolding body bodyAt namesAt
+  name-count = table-length s (nameAt s) (nameEnd s) (nameCountAt s + 2) (be16 s (nameCountAt s))
+
+  rule-count : length (body .rules) ≡ be16 s (ruleCountAt s)
+  unfolding body bodyAt rulesAt
+  rule-count = table-length s (ruleAt s) (ruleEnd s) (ruleCountAt s + 2) (be16 s (ruleCountAt s))
+
+  net-count : length (body .nets) ≡ be16 s (netCountAt s)
+  unfolding body bodyAt netsAt
+  net-count = table-length s (flatNetAt s) (flatNetEnd s) (netCountAt s + 2) (be16 s (netCountAt s))
+
+  path-get : (k a : ℕ) (d : List ℕ) → k < be16 s 9 → a ≡ within s (tableEnd (pathEnd s) 11 k) → getD (body .paths) k d ≡ pathAt s a
+  unfolding body bodyAt pathsAt partEnd
+  path-get = table-read s (pathAt s) (pathEnd s) (part-up s part.Path) 11 (be16 s 9) paths-end
+
+  name-get : (k a : ℕ) (d : Name) → k < be16 s (nameCountAt s) → a ≡ within s (tableEnd (nameEnd s) (nameCountAt s + 2) k) → getD (body .names) k d ≡ nameAt s a
+  unfolding body bodyAt namesAt partEnd
+  name-get = table-read s (nameAt s) (nameEnd s) (part-up s part.Name) (nameCountAt s + 2) (be16 s (nameCountAt s)) names-end
+
+  rule-get : (k a : ℕ) (d : Rule) → k < be16 s (ruleCountAt s) → a ≡ within s (tableEnd (ruleEnd s) (ruleCountAt s + 2) k) → getD (body .rules) k d ≡ ruleAt s a
+  unfolding body bodyAt rulesAt partEnd
+  rule-get = table-read s (ruleAt s) (ruleEnd s) (part-up s part.Rule) (ruleCountAt s + 2) (be16 s (ruleCountAt s)) rules-end
+
+  net-get : (k a : ℕ) (d : FlatNet) → k < be16 s (netCountAt s) → a ≡ within s (tableEnd (flatNetEnd s) (netCountAt s + 2) k) → getD (body .nets) k d ≡ flatNetAt s a
+  unfolding body bodyAt netsAt partEnd
+  net-get = table-read s (flatNetAt s) (flatNetEnd s) (part-up s part.Net) (netCountAt s + 2) (be16 s (netCountAt s)) nets-end
+
+  path-inside : (k : ℕ) → k ≤ be16 s 9 → tableEnd (pathEnd s) 11 k ≤ length s
+  unfolding partEnd
+  path-inside k h = omega (arith, paths-end, table-inside (pathEnd s) (part-up s part.Path) 11 (be16 s 9) k h)
+
+  name-inside : (k : ℕ) → k ≤ be16 s (nameCountAt s) → tableEnd (nameEnd s) (nameCountAt s + 2) k ≤ length s
+  unfolding partEnd
+  name-inside k h = omega (arith, names-end, table-inside (nameEnd s) (part-up s part.Name) (nameCountAt s + 2) (be16 s (nameCountAt s)) k h)
+
+  rule-inside : (k : ℕ) → k ≤ be16 s (ruleCountAt s) → tableEnd (ruleEnd s) (ruleCountAt s + 2) k ≤ length s
+  unfolding partEnd
+  rule-inside k h = omega (arith, rules-end, table-inside (ruleEnd s) (part-up s part.Rule) (ruleCountAt s + 2) (be16 s (ruleCountAt s)) k h)
+
+  net-inside : (k : ℕ) → k ≤ be16 s (netCountAt s) → tableEnd (flatNetEnd s) (netCountAt s + 2) k ≤ length s
+  unfolding partEnd
+  net-inside k h = omega (arith, nets-end, table-inside (flatNetEnd s) (part-up s part.Net) (netCountAt s + 2) (be16 s (netCountAt s)) k h)
+
+  rule-at : (k a : ℕ) → k < be16 s (ruleCountAt s) → a ≡ within s (tableEnd (ruleEnd s) (ruleCountAt s + 2) k) → RuleStands s (ruleAt s a) a
+  rule-at k a h i =
+      let d : tableEnd (ruleEnd s) (ruleCountAt s + 2) k ≡ a = omega (arith, rule-inside k (omega arith)) in
+      rule-stands s a (rw d at (read-tags flat flatNetAt flatNetEnd s (stands-net s) f e k h))
+
+  net-at : (k a : ℕ) → k < be16 s (netCountAt s) → a ≡ within s (tableEnd (flatNetEnd s) (netCountAt s + 2) k) → NetStands s (flatNetAt s a) a
+  net-at k a h i =
+      let d : tableEnd (flatNetEnd s) (netCountAt s + 2) k ≡ a = omega (arith, net-inside k (omega arith)) in
+      net-stands s a (rw (table-next (flatNetEnd s) (netCountAt s + 2) k, d) at (net-inside (suc k) h))
+
+  body-limit : body .limit ≡ limitOf (be32 s 5)
+  unfolding body bodyAt
+  body-limit = refl
+
+  body-stands : FlatStands s body
+  body-stands = record {
+    limit = body-limit;
+    pathCount = path-count;
+    pathInside = λ k h. path-inside k (rw path-count at h);
+    path = λ k a d h i. rw (path-get k a d (rw path-count at h) i) (path-stands s a);
+    nameCount = name-count;
+    nameInside = λ k h. name-inside k (rw name-count at h);
+    name = λ k a d h i. rw (name-get k a d (rw name-count at h) i) (name-stands s a);
+    ruleCount = rule-count;
+    ruleInside = λ k h. rule-inside k (rw rule-count at h);
+    rule = λ k a d h i. let l : k < be16 s (ruleCountAt s) = rw rule-count at h in rw (rule-get k a d l i) (rule-at k a l i);
+    netCount = net-count;
+    netInside = λ k h. net-inside k (rw net-count at h);
+    net = λ k a d h i. let l : k < be16 s (netCountAt s) = rw net-count at h in rw (net-get k a d l i) (net-at k a l i);
+  }
+
+  -- what the readers give is what was read
+  pub flat-stands : FlatStands s f
+  unfolding body
+  flat-stands = subst (FlatStands s) (sym (read-stands flat flatNetAt flatNetEnd s (stands-net s) f e)) body-stands

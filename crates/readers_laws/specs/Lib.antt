@@ -1,0 +1,7 @@
+pub mod Tables
+pub mod Parts
+pub mod Rules
+pub mod Reads
+pub mod Flat
+pub mod Few
+pub mod Bounds

@@ -1,0 +1,2 @@
+pub mod RuleNames
+pub mod Steps
