@@ -1,4 +1,5 @@
 pub mod Stored
 pub mod Laws
+pub mod Pass
 pub mod Parts
 pub mod Body
