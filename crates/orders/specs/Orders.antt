@@ -4,7 +4,7 @@ use Prim.Native.Nat.{ℕ, zero, suc, _+_}
 use mathlib.Core.Bool.{Bool, true, false}
 use mathlib.Core.List.{List, [], _∷_}
 use lib.ListN.{getD, replicate}
-use lib.Dec.{ltb}
+use lib.Dec.{leb, ltb}
 use Rattle.words.specs.Choose.{pick, if-lt}
 use Rattle.words.specs.Left.{Left}
 use Rattle.fields.specs.Fields.{be16}
@@ -40,12 +40,16 @@ pairsFrom counts base last (p ∷ ps) =
     let r = pairsFrom (x .ws) base (p .0 + 1) ps in
     pick (x .is) r (record { is = false; ws = x .ws })
 
--- one net: its name is not below last, and its pairs fit
+-- the name of the net at a place is not below last
+unfoldable pub nameFits : List ℕ → ℕ → ℕ → Bool
+nameFits s at last = leb last (be16 s at)
+
+-- one net: its name fits, and so do its pairs
 unfoldable pub netOrdered : List ℕ → ℕ → ℕ → List ℕ → ℕ → Left Bool
 netOrdered counts base last s at =
-    if-lt (be16 s at) last
-    (record { is = false; ws = counts })
+    pick (nameFits s at last)
     (pairsFrom counts base 0 (netPairs s at))
+    (record { is = false; ws = counts })
 
 -- each net above a base of its own
 unfoldable pub netsFrom : List ℕ → ℕ → ℕ → List ℕ → ℕ → ℕ → Bool

@@ -7,7 +7,7 @@ use native.Mathlib.Omega.{arith}
 use native.Mathlib.Numerals.{sub-one}
 use native.Mathlib.Nat.{not-suc-le-zero}
 use lib.ListN.{length, getD, replicate}
-use lib.Dec.{ltb}
+use lib.Dec.{leb, ltb}
 use Rattle.words.specs.Choose.{pick, if-lt, lt-yes, lt-no}
 use Rattle.words.specs.Left.{Left, whole}
 use Rattle.fields.specs.Fields.{be16}
@@ -15,7 +15,7 @@ use Rattle.stored.specs.Stored.{tableAt, pairAt, pairsAt, pairCountAt, flatNetE
 use Rattle.ends.specs.Ends.{within, on}
 use Rattle.tally.specs.Tally.{bump}
 use Rattle.wiring.specs.Wiring.{pairRun, netPairs}
-use Rattle.orders.specs.Orders.{marked, pairFits, pairStep, pairsFrom, netOrdered, netsFrom, netsOrdered}
+use Rattle.orders.specs.Orders.{marked, pairFits, pairStep, pairsFrom, nameFits, netOrdered, netsFrom, netsOrdered}
 
 -- ---- one pair
 
@@ -79,15 +79,19 @@ pub pairs-are : (s counts c : List ℕ) (base at p k f : ℕ) (t : Bool) → p �
 unfolding netPairs
 pairs-are s counts c base at p k f t ep ek ef et ec = rw (ef, ek, ep) at (whole (pairsFrom counts base 0 (pairRun s f k)) et ec)
 
-module _ (s counts : List ℕ) (base last at m : ℕ) (em : m ≡ be16 s at) where
-  pub name-low : m < last → record { is = false; ws = counts } ≡ netOrdered counts base last s at
-  unfolding netOrdered
-  name-low h = lt-yes _ _ _ _ (omega arith) refl
+pub name-is : (s : List ℕ) (at last m : ℕ) → m ≡ be16 s at → leb last m ≡ nameFits s at last
+unfolding nameFits
+name-is s at last m e = ap (leb last) e
 
-  pub name-up : (c : List ℕ) (t : Bool) → last ≤ m → t ≡ pairsFrom counts base 0 (netPairs s at) .is → c ≡ pairsFrom counts base 0 (netPairs s at) .ws
-      → record { is = t; ws = c } ≡ netOrdered counts base last s at
-  unfolding netOrdered
-  name-up c t h et ec = lt-no _ _ _ _ (omega arith) (whole (pairsFrom counts base 0 (netPairs s at)) et ec)
+module _ (s counts : List ℕ) (base last at : ℕ) (t : Bool) (et : t ≡ nameFits s at last) where
+  pub name-no : t ≡ false → record { is = false; ws = counts } ≡ netOrdered counts base last s at
+  unfolding netOrdered pick
+  name-no y = rw (← et, y)
+
+  pub name-yes : (c : List ℕ) (r : Bool) → t ≡ true → r ≡ pairsFrom counts base 0 (netPairs s at) .is → c ≡ pairsFrom counts base 0 (netPairs s at) .ws
+      → record { is = r; ws = c } ≡ netOrdered counts base last s at
+  unfolding netOrdered pick
+  name-yes c r y er ec = rw (← et, y) (whole (pairsFrom counts base 0 (netPairs s at)) er ec)
 
 -- ---- nets
 

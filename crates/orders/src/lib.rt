@@ -3,7 +3,7 @@
 // words, above a base, as in `tally`.
 ghost use mathlib.Core.Path.{_≡_};
 ghost use Rattle.wiring.specs.Wiring.{pairRun, netPairs};
-ghost use Rattle.orders.specs.Orders.{marked, pairFits, pairStep, pairsFrom, netOrdered, netsOrdered};
+ghost use Rattle.orders.specs.Orders.{marked, pairFits, pairStep, pairsFrom, nameFits, netOrdered, netsOrdered};
 
 // Whether a wire was seen.
 fn marked(counts: &[u32], base: u16, w: u16) -> bool
@@ -81,15 +81,22 @@ pub fn net_pairs(counts: &mut [u32], base: u16, s: &[u8], at: usize) -> bool
     pairs_run(counts, base, s, from, k as u32)
 }
 
+// Whether the name of the net at a place may follow those before it. Tree nets are held to it too.
+pub fn name_fits(s: &[u8], at: usize, last: u32) -> bool
+    ensures { λ r. ⌜ r ≡ nameFits (now (s .entry)) at last ⌝ }
+{
+    let m = fields::be16(s, at);
+    last <= m as u32
+}
+
 // One net.
 fn net_ordered(counts: &mut [u32], base: u16, last: u32, s: &[u8], at: usize) -> bool
     ensures { λ r. ⌜ (r ≡ netOrdered (now (counts .entry)) base last (now (s .entry)) at .is) × (now (counts .exit) ≡ netOrdered (now (counts .entry)) base last (now (s .entry)) at .ws) ⌝ }
 {
-    let m = fields::be16(s, at);
-    if (m as u32) < last {
-        return false;
+    if name_fits(s, at, last) {
+        return net_pairs(counts, base, s, at);
     }
-    net_pairs(counts, base, s, at)
+    false
 }
 
 // n nets, one after another, each above a base of its own, so that the counts are never cleared.

@@ -17,7 +17,7 @@ use Rattle.ends.specs.Ends.{within, on}
 use Rattle.tally.specs.Tally.{Inside}
 use Rattle.wiring.specs.Wiring.{pairRun, netPairs}
 use Rattle.walk.specs.Loops.{times-suc}
-use Rattle.scan_tree_laws.specs.Pass.{pass, under}
+use Rattle.stored.specs.Pass.{pass, under}
 
 -- ---- every wire is below the wire counter
 

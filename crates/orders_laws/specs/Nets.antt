@@ -1,14 +1,13 @@
 -- The answer of `nets_ordered` on flat nets that are read: check 6 on their names and pairs.
 use Prim.Native.Nat.{ℕ, zero, suc, _+_, _<_, _≤_}
 use mathlib.Core.Path.{_≡_, refl, sym, ap, _∙_}
-use mathlib.Core.Bool.{Bool, true, false, not, _&&_}
+use mathlib.Core.Bool.{Bool, true, false, _&&_}
 use mathlib.Core.Option.{some}
 use mathlib.Core.List.{List, [], _∷_, map}
 use native.Mathlib.Omega.{arith}
 use lib.ListN.{length, getD, drop, replicate, length-replicate}
-use lib.Dec.{leb, ltb}
-use Rattle.words.specs.Choose.{pick, if-lt, lt-no, lt-split}
-use Rattle.words.specs.Left.{Left}
+use lib.Dec.{leb}
+use Rattle.words.specs.Choose.{pick, lt-no}
 use Rattle.net_file.specs.Lists.{all, ascend}
 use Rattle.net_file.specs.Values.{FlatNet}
 use Rattle.net_file.specs.Read.{_>>=_, give, times, readFlatNet}
@@ -21,9 +20,9 @@ use Rattle.ends.specs.Ends.{within}
 use Rattle.tally.specs.Tally.{bump, Low, bump-length}
 use Rattle.wiring.specs.Wiring.{netPairs}
 use Rattle.walk.specs.Loops.{times-suc}
-use Rattle.scan_tree_laws.specs.Pass.{pass}
-use Rattle.orders.specs.Orders.{pairsFrom, netOrdered, netsFrom, netsOrdered}
-use Rattle.orders_laws.specs.Ascend.{ascendFrom, ascends, not-below}
+use Rattle.stored.specs.Pass.{pass}
+use Rattle.orders.specs.Orders.{pairsFrom, nameFits, netOrdered, netsFrom, netsOrdered}
+use Rattle.orders_laws.specs.Ascend.{ascendFrom, ascends}
 use Rattle.orders_laws.specs.Pairs.{bump-low, pairs-keep, pairs-ordered}
 use Rattle.orders_laws.specs.Flat.{FlatRead, flat-read}
 
@@ -31,18 +30,21 @@ use Rattle.orders_laws.specs.Flat.{FlatRead, flat-read}
 
 module _ (s counts : List ℕ) (base last at : ℕ) where
   net-keeps : (P : List ℕ → Type 0) → ((c : List ℕ) (w : ℕ) → P c → P (bump c base w)) → P counts → P (netOrdered counts base last s at .ws)
-  unfolding netOrdered
-  net-keeps P f h = lt-split (be16 s at) last _ _ (λ (x : Left Bool). P (x .ws)) (λ l. h) (λ l. pairs-keep base P f (netPairs s at) counts 0 h)
+  unfolding netOrdered pick
+  net-keeps P f h = go (nameFits s at last)
+    where
+      go : (t : Bool) → P (pick t (pairsFrom counts base 0 (netPairs s at)) (record { is = false; ws = counts }) .ws)
+      go true = pairs-keep base P f (netPairs s at) counts 0 h
+      go false = h
 
   net-ordered : FlatRead s at → length counts ≡ 65536 → Low counts base
       → netOrdered counts base last s at .is ≡ (leb last (flatNetAt s at .name) && pairsOrdered (flatNetAt s at .pairs))
-  unfolding netOrdered if-lt pick flatNetAt
+  unfolding netOrdered nameFits pick flatNetAt
   net-ordered r n l =
-      go (ltb (be16 s at) last)
-      ∙ rw (not-below (be16 s at) last, r .pairs)
-      (ap (λ t. leb last (be16 s at) && t) (pairs-ordered counts base (flatNetAt s at .pairs) l (rw n (r .inside))))
+      go (leb last (be16 s at))
+      ∙ rw (r .pairs) (ap (λ t. leb last (be16 s at) && t) (pairs-ordered counts base (flatNetAt s at .pairs) l (rw n (r .inside))))
     where
-      go : (t : Bool) → pick t (record { is = false; ws = counts }) (pairsFrom counts base 0 (netPairs s at)) .is ≡ (not t && pairsFrom counts base 0 (netPairs s at) .is)
+      go : (t : Bool) → pick t (pairsFrom counts base 0 (netPairs s at)) (record { is = false; ws = counts }) .is ≡ (t && pairsFrom counts base 0 (netPairs s at) .is)
       go true = refl
       go false = refl
 

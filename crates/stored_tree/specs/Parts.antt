@@ -3,10 +3,9 @@ use Prim.Native.Nat.{ℕ, zero, suc, _+_}
 use mathlib.Core.Path.{_≡_, refl}
 use mathlib.Core.List.{List}
 use native.Mathlib.Omega.{arith}
-use Rattle.net_file.specs.Values.{Tree, wire, node, trees}
-use Rattle.net_file.specs.Read.{Parser, _>>=_, give, below, many, readName, readWire, byTag, readTree, readLink, readTreeNet}
+use Rattle.net_file.specs.Values.{wire}
+use Rattle.net_file.specs.Read.{Parser, readWire, byTag, readTree, readLink, readTreeNet}
 use Rattle.fields.specs.Fields.{byte, be16}
-use Rattle.stored.specs.Stored.{tableAt, tableEnd, nameAt, nameEnd}
 use Rattle.stored.specs.Laws.{Stands, stands-bind, stands-give, stands-as, stands-1, stands-2, stands-4, stands-below, stands-many}
 use Rattle.stored.specs.Parts.{stands-name, stands-bit}
 use Rattle.stored_tree.specs.Tree.{onTag, childCountAt, children, treeEnd, treeAt, linkAt, linkEnd, linkCountAt, treeNetAt, treeNetEnd}

@@ -1,7 +1,6 @@
 -- What stands at a place of a tree file, and the place after it, by offsets alone: nothing is checked here, and no bound is asked for.
 -- On a file that is read, these are the parts of what was read (`Parts`).
 use Prim.Native.Nat.{ℕ, zero, suc, _+_}
-use mathlib.Core.Bool.{Bool}
 use mathlib.Core.List.{List}
 use lib.Dec.{eqb}
 use Rattle.net_file.specs.Values.{Tree, wire, node, trees, TreeNet}

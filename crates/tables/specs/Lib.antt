@@ -1,4 +1,3 @@
-pub mod Others
 pub mod Tables
 pub mod Whole
 pub mod Steps

@@ -22,7 +22,7 @@ use Rattle.walk.specs.After.{after, after-past, after-bind, after-stop, after-b
 use Rattle.walk.specs.Room.{needs-next, needs-first, needs-below, needs-many, after-short}
 use Rattle.walk.specs.Walk.{many-2-short, many-2-high, many-2-on}
 use Rattle.free_path.specs.FreePath.{others}
-use Rattle.tables.specs.Others.{others-exact}
+use Rattle.free_laws.specs.Paths.{others-exact}
 
 -- the path table, of which at most 255 differ from the free path
 unfoldable pub readPathTable : Parser (List (List ℕ))

@@ -98,7 +98,7 @@ module _ (s counts : List ℕ) (base at w c : ℕ) (x : Bool) where
 
 -- ---- nodes seen twice
 
-all-append : {A : Type 0} (f : A → Bool) (xs ys : List A) → all f (xs ++ ys) ≡ (all f xs && all f ys)
+pub all-append : {A : Type 0} (f : A → Bool) (xs ys : List A) → all f (xs ++ ys) ≡ (all f xs && all f ys)
 all-append f [] ys = refl
 all-append f (x ∷ xs) ys = ap (λ t. f x && t) (all-append f xs ys) ∙ sym (and-assoc (f x) (all f xs) (all f ys))
   where

@@ -1,0 +1,124 @@
+-- Every wire of a net that is read is below its wire counter, so it has a word in the tally (`inside-net`).
+use Prim.Native.Nat.{ℕ, zero, suc, _≤_}
+use mathlib.Core.Path.{_≡_, ap, subst}
+use mathlib.Core.Option.{Option, none, some}
+use mathlib.Core.List.{List, [], _∷_, _++_, append-nil}
+use native.Mathlib.Omega.{arith}
+use Rattle.net_file.specs.Lists.{concatMap}
+use Rattle.net_file.specs.Values.{Tree, wire, node, trees, TreeNet}
+use Rattle.net_file.specs.Read.{Parser, _>>=_, give, below, times, many, readName, readBit, readWire, byTag, readTree, readLink, readTreeNet}
+use Rattle.net_file.specs.Checks.{wiresOf, treesOf}
+use Rattle.stored.specs.Laws.{bound}
+use Rattle.walk.specs.Loops.{times-zero, times-suc}
+use Rattle.tally.specs.Tally.{Inside}
+use Rattle.stored.specs.Pass.{under}
+use Rattle.scan_tree_laws.specs.Trees.{singles}
+use Rattle.scan_tree_laws.specs.Scanned.{concat-append, wires-listed}
+
+-- what was given is what was read
+given : {A : Type 0} (x y : A) (q r : List ℕ) → give x q ≡ some (y, r) → x ≡ y
+given {A} x y q r e = ap value e
+  where
+    value : Option (A × List ℕ) → A
+    value none = x
+    value (some p) = p .0
+
+pub inside-append : (n : ℕ) (ws vs : List ℕ) → Inside n ws → Inside n vs → Inside n (ws ++ vs)
+inside-append n [] vs h k = k
+inside-append n (w ∷ ws) vs h k = (h .0, inside-append n ws vs (h .1) k)
+
+-- a greater bound
+inside-more : (m n : ℕ) → m ≤ n → (ws : List ℕ) → Inside m ws → Inside n ws
+inside-more m n l [] h = Prim.tt
+inside-more m n l (w ∷ ws) h = (omega (arith, h .0), inside-more m n l ws (h .1))
+
+module _ (wires : ℕ) where
+  -- the wires of trees
+  abbrev Within : List Tree → Type 0
+  Within ts = Inside wires (concatMap wiresOf ts)
+
+  within-append : (ts us : List Tree) → Within ts → Within us → Within (ts ++ us)
+  within-append ts us h k = rw (concat-append wiresOf ts us) (inside-append wires (concatMap wiresOf ts) (concatMap wiresOf us) h k)
+
+  -- ---- parts of which each holds trees
+
+  module _ {A : Type 0} (p : Parser A) (ts : A → List Tree) (each : (bs : List ℕ) (x : A) (r : List ℕ) → p bs ≡ some (x, r) → Within (ts x)) where
+    within-times : (n : ℕ) (bs : List ℕ) (xs : List A) (r : List ℕ) → times n p bs ≡ some (xs, r) → Within (concatMap ts xs)
+    within-times zero bs xs r h = rw (← given [] xs bs r (rw times-zero at h)) Prim.tt
+    within-times (suc n) bs xs r h =
+        let b = bound p (λ x. times n p >>= λ ys. give (x ∷ ys)) bs xs r (rw times-suc at h) in
+        let c = bound (times n p) (λ ys. give (b .value ∷ ys)) (b .rest) xs r (b .next) in
+        rw (← given (b .value ∷ c .value) xs (c .rest) r (c .next))
+        (within-append (ts (b .value)) (concatMap ts (c .value)) (each bs (b .value) (b .rest) (b .first)) (within-times n (b .rest) (c .value) (c .rest) (c .first)))
+
+    within-many : (k m : ℕ) (bs : List ℕ) (xs : List A) (r : List ℕ) → many k m p bs ≡ some (xs, r) → Within (concatMap ts xs)
+    unfolding many
+    within-many k m bs xs r h = let b = bound (below k (suc m)) (λ n. times n p) bs xs r h in within-times (b .value) (b .rest) xs r (b .next)
+
+  -- ---- a tree
+
+  within-wire : (bs : List ℕ) (x : Tree) (r : List ℕ) → readWire wires bs ≡ some (x, r) → Within (x ∷ [])
+  unfolding readWire wiresOf
+  within-wire bs x r h =
+      let b = bound (below 2 wires) (λ w. give (wire w)) bs x r h in
+      let l = under 2 wires (b .value) bs (b .rest) (b .first) in
+      rw (← given (wire (b .value)) x (b .rest) r (b .next)) (l, Prim.tt)
+
+module _ (paths names wires : ℕ) where
+  -- a node behind its tag
+  abbrev nodeOf : ℕ → Parser Tree
+  nodeOf d = readName paths names >>= λ m. many 1 15 (readTree paths names wires d) >>= λ ts. give (node m (trees ts))
+
+  -- trees of one depth
+  abbrev Safe : ℕ → Type 0
+  Safe d = (bs : List ℕ) (x : Tree) (r : List ℕ) → readTree paths names wires d bs ≡ some (x, r) → Within wires (x ∷ [])
+
+  within-node : (d : ℕ) → Safe d → (bs : List ℕ) (x : Tree) (r : List ℕ) → nodeOf d bs ≡ some (x, r) → Within wires (x ∷ [])
+  unfolding wiresOf
+  within-node d each bs x r h =
+      let b = bound (readName paths names) _ bs x r h in
+      let c = bound (many 1 15 (readTree paths names wires d)) (λ ts. give (node (b .value) (trees ts))) (b .rest) x r (b .next) in
+      let w = within-many wires (readTree paths names wires d) (λ t. t ∷ []) each 1 15 (b .rest) (c .value) (c .rest) (c .first) in
+      rw (← given (node (b .value) (trees (c .value))) x (c .rest) r (c .next), append-nil, wires-listed (c .value)) (rw (singles (c .value)) at w)
+
+  within-tagged : (d tag : ℕ) → Safe d → (bs : List ℕ) (x : Tree) (r : List ℕ) → byTag tag (readWire wires) (nodeOf d) bs ≡ some (x, r) → Within wires (x ∷ [])
+  unfolding byTag
+  within-tagged d zero each = within-wire wires
+  within-tagged d (suc n) each = within-node d each
+
+  within-tree : (d : ℕ) → Safe d
+  unfolding readTree
+  within-tree zero bs x r h = let b = bound (below 1 1) (λ tag. readWire wires) bs x r h in within-wire wires (b .rest) x r (b .next)
+  within-tree (suc d) bs x r h =
+      let b = bound (below 1 2) (λ tag. byTag tag (readWire wires) (nodeOf d)) bs x r h in
+      within-tagged d (b .value) (within-tree d) (b .rest) x r (b .next)
+
+  within-link : (bs : List ℕ) (x : Tree × Tree) (r : List ℕ) → readLink paths names wires bs ≡ some (x, r) → Within wires (x .0 ∷ x .1 ∷ [])
+  unfolding readLink
+  within-link bs x r h =
+      let aTree = readTree paths names wires 64 in
+      let b = bound aTree (λ a. aTree >>= λ b. give (a, b)) bs x r h in
+      let c = bound aTree (λ t. give (b .value, t)) (b .rest) x r (b .next) in
+      rw (← given (b .value, c .value) x (c .rest) r (c .next))
+      (within-append wires (b .value ∷ []) (c .value ∷ []) (within-tree 64 bs (b .value) (b .rest) (b .first)) (within-tree 64 (b .rest) (c .value) (c .rest) (c .first)))
+
+-- ---- a net
+
+pub inside-net : (paths names n : ℕ) → 65536 ≤ n → (bs : List ℕ) (x : TreeNet) (r : List ℕ) → readTreeNet paths names bs ≡ some (x, r) → Inside n (concatMap wiresOf (treesOf x))
+unfolding readTreeNet treesOf
+inside-net paths names n room bs x r h =
+    let a = bound (below 2 names) _ bs x r h in
+    let b = bound readBit _ (a .rest) x r (a .next) in
+    let c = bound (below 4 65537) _ (b .rest) x r (b .next) in
+    let wires = c .value in
+    let l = under 4 65537 wires (b .rest) (c .rest) (c .first) in
+    let aTree = readTree paths names wires 64 in
+    let aLink = readLink paths names wires in
+    let d = bound (many 1 14 aTree) _ (c .rest) x r (c .next) in
+    let e = bound (many 2 65535 aLink) _ (d .rest) x r (d .next) in
+    let free = within-many wires aTree (λ t. t ∷ []) (within-tree paths names wires 64) 1 14 (c .rest) (d .value) (d .rest) (d .first) in
+    let links = within-many wires aLink (λ t. t .0 ∷ t .1 ∷ []) (within-link paths names wires) 2 65535 (d .rest) (e .value) (e .rest) (e .first) in
+    inside-more wires n (omega arith) (concatMap wiresOf (treesOf x))
+    (subst (λ (y : TreeNet). Inside wires (concatMap wiresOf (treesOf y)))
+    (given (record { name = a .value; included = b .value; wires = wires; free = d .value; links = e .value }) x (e .rest) r (e .next))
+    (within-append wires (d .value) (concatMap (λ t. t .0 ∷ t .1 ∷ []) (e .value)) (rw (singles (d .value)) at free) links))
