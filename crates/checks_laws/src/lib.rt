@@ -1,0 +1,1 @@
+// What the checks of the tables mean. Laws only, in specs/.
