@@ -1,6 +1,7 @@
 // What stands in a flat net at its place, and in a node at its place. A node's name stands at the node's own place.
 // Every function has an answer everywhere: past the end a number is 0 and a place is the end.
-use kinds::{NameId, Wire};
+use kinds::NameId;
+use kinds::Wire;
 use readers::Part;
 ghost use Prim.Native.Nat.{_+_, _*_};
 ghost use mathlib.Core.Path.{_≡_};

@@ -2,13 +2,13 @@
 use Prim.Native.Nat.{ℕ, zero, suc, _+_, _*_, _-_, _/_, _<_, _≤_}
 use mathlib.Core.Path.{_≡_, refl, sym, ap, _∙_}
 use mathlib.Core.Bool.{Bool, true, false}
-use mathlib.Core.List.{List, [], _∷_}
+use mathlib.Core.List.{List}
 use native.Mathlib.Omega.{arith}
 use native.Mathlib.Numerals.{sub-one}
 use native.Mathlib.Nat.{not-suc-le-zero}
 use lib.ListN.{length, getD, replicate}
 use lib.Dec.{leb, ltb}
-use Rattle.words.specs.Choose.{pick, if-lt, lt-yes, lt-no}
+use Rattle.words.specs.Choose.{pick, lt-yes, lt-no}
 use Rattle.words.specs.Left.{Left, whole}
 use Rattle.fields.specs.Fields.{be16}
 use Rattle.stored.specs.Stored.{tableAt, pairAt, pairsAt, pairCountAt, flatNetEnd}

@@ -1,16 +1,16 @@
 -- A flat net that is read: its pairs are those that `net_pairs` goes over, and each of their wires has its word.
 use Prim.Native.Nat.{ℕ, zero, suc, _+_, _*_, _<_, _≤_}
-use mathlib.Core.Path.{_≡_, refl, sym, ap, _∙_}
-use mathlib.Core.Option.{Option, some}
+use mathlib.Core.Path.{_≡_, refl, sym}
+use mathlib.Core.Option.{some}
 use mathlib.Core.List.{List, [], _∷_}
 use native.Mathlib.Omega.{arith}
 use lib.ListN.{length, drop}
 use Rattle.words.specs.Choose.{lt-no}
 use Rattle.net_file.specs.Values.{FlatNet}
-use Rattle.net_file.specs.Read.{Parser, _>>=_, give, below, times, many, readPair, readFlatNet}
+use Rattle.net_file.specs.Read.{_>>=_, give, below, times, many, readPair, readFlatNet}
 use Rattle.net_file.specs.Checks.{pairWires}
 use Rattle.fields.specs.Fields.{be16, be32}
-use Rattle.stored.specs.Stored.{pairAt, pairsAt, pairCountAt, flatNetAt, flatNetEnd, tableAt, nodeCountAt, listAt, listEnd}
+use Rattle.stored.specs.Stored.{pairAt, pairsAt, pairCountAt, flatNetAt, tableAt, listEnd}
 use Rattle.stored.specs.Laws.{bound, stands-as, stands-2, stands-4, stands-below, stands-many, stands-numbers, table-steps}
 use Rattle.stored.specs.Parts.{stands-bit, stands-pair}
 use Rattle.ends.specs.Ends.{within, on}

@@ -1,5 +1,5 @@
 -- The answer of `pairs_run` on pairs whose wires all have their word: whether they are ordered.
-use Prim.Native.Nat.{ℕ, zero, suc, _+_, _-_, _<_, _≤_, min}
+use Prim.Native.Nat.{ℕ, _+_, _-_, _<_, min}
 use mathlib.Core.Path.{_≡_, refl, sym, ap, _∙_}
 use mathlib.Core.Bool.{Bool, true, false, not, _&&_, _||_}
 use mathlib.Core.List.{List, [], _∷_, map}
@@ -9,7 +9,7 @@ use lib.ListN.{length, getD}
 use lib.Dec.{eqb, leb, ltb}
 use borrow.Author.Tests.{eq-eqb, ne-eqb, lt-ltb, le-ltb, ltb-true}
 use Rattle.words.specs.Choose.{pick, if-lt}
-use Rattle.net_file.specs.Lists.{all, bit, ascend, distinct}
+use Rattle.net_file.specs.Lists.{all, bit}
 use Rattle.net_file.specs.Checks.{occurs, pairWires, pairsOrdered}
 use Rattle.tally.specs.Tally.{bump, tally, seen, Low, Inside, bump-length, tally-low, tally-seen}
 use Rattle.repeats_laws.specs.Fresh.{fresh, fresh-distinct}
@@ -33,11 +33,11 @@ module _ (counts : List ℕ) (base w : ℕ) where
             lt-ltb base (getD (bump counts base w) v 0) (omega arith) ∙ ap (λ t. t || ltb base (getD counts v 0)) (sym (eq-eqb w v e))
         | no n ↦
             let b : bit (eqb v w) ≡ 0 = ap bit (ne-eqb v w (λ e. n (sym e))) in
-            same v (getD (bump counts base w) v 0) (getD counts v 0) (omega arith) ∙ ap (λ t. t || ltb base (getD counts v 0)) (sym (ne-eqb w v n))
+            same (getD (bump counts base w) v 0) (getD counts v 0) (omega arith) ∙ ap (λ t. t || ltb base (getD counts v 0)) (sym (ne-eqb w v n))
       ]
     where
-      same : (v x y : ℕ) → x - base ≡ min 3 (y - base) → ltb base x ≡ ltb base y
-      same v x y e = elim (decLt base y) [
+      same : (x y : ℕ) → x - base ≡ min 3 (y - base) → ltb base x ≡ ltb base y
+      same x y e = elim (decLt base y) [
         | yes g ↦ lt-ltb base x (omega arith) ∙ sym (lt-ltb base y g)
         | no g ↦ le-ltb base x (omega arith) ∙ sym (le-ltb base y (omega arith))
       ]

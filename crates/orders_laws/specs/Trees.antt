@@ -1,9 +1,9 @@
 -- The answer of `names_ascend` on tree nets that are read: check 6 on their names.
 use Prim.Native.Nat.{ℕ, zero, suc, _+_, _≤_}
-use mathlib.Core.Path.{_≡_, refl, sym, ap, _∙_}
+use mathlib.Core.Path.{_≡_, refl, _∙_}
 use mathlib.Core.Bool.{Bool, true, false, _&&_}
 use mathlib.Core.Option.{some}
-use mathlib.Core.List.{List, [], _∷_, map}
+use mathlib.Core.List.{List, _∷_, map}
 use lib.ListN.{length, drop}
 use lib.Dec.{leb}
 use Rattle.words.specs.Choose.{pick}

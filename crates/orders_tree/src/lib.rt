@@ -12,7 +12,7 @@ pub fn names_ascend(s: &[u8], from: usize, n: u16) -> bool
     while 0 < k {
         if orders::name_fits(s, at, last) {
             last = fields::be16(s, at) as u32 + 1;
-            let c = scan_tree::net(s, at);
+            let c = scan_tree::count_net(s, at);
             at = c.end;
             k -= 1;
         } else {

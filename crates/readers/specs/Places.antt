@@ -1,5 +1,5 @@
 -- Where a place past the end is taken for the end, nothing that stands there changes, and no table ends elsewhere.
-use Prim.Native.Nat.{ℕ, zero, suc, _+_, _*_, _-_, _<_, _≤_}
+use Prim.Native.Nat.{ℕ, zero, suc, _+_, _-_, _<_, _≤_}
 use mathlib.Core.Path.{_≡_, refl, sym, ap, _∙_}
 use mathlib.Core.List.{List}
 use native.Mathlib.Omega.{arith}
@@ -8,8 +8,8 @@ use native.Mathlib.Numerals.{sub-one}
 use native.Mathlib.Nat.{not-suc-le-zero}
 use lib.ListN.{length}
 use Rattle.fields.specs.Fields.{byte, be16, be32, be64, byte-past, be16-past, be32-past, be64-past}
-use Rattle.stored.specs.Stored.{tableEnd, listEnd, pathEnd, nameEnd, ruleOfEnd, ruleEnd, nodeEnd, pairCountAt, nodeCountAt, flatNetEnd, nameCountAt, ruleCountAt, netCountAt}
-use Rattle.ends.specs.Ends.{within, on}
+use Rattle.stored.specs.Stored.{tableEnd, listEnd, pathEnd, nameEnd, ruleOfEnd, ruleEnd, nodeEnd, nodeCountAt, flatNetEnd, nameCountAt, ruleCountAt, netCountAt}
+use Rattle.ends.specs.Ends.{within, on, list-past, name-past, node-up, net-up, table-up}
 use Rattle.readers.specs.declared.Part.{Part}
 use Rattle.readers.specs.declared.Part.the-variants.{Path, Name, Rule, Net, Node, PathList}
 use Rattle.readers.specs.Readers.{partEnd}
@@ -49,24 +49,18 @@ module _ (s : List ℕ) (x a : ℕ) where
   pub be64-clamped : (r : ℕ) → a ≡ within s x → r ≡ be64 s a → r ≡ be64 s x
   be64-clamped r = clamped-at (be64 s) s (be64-past s) x a r
 
--- ---- each part ends after it begins
+-- ---- each part ends no earlier than it begins
 
 module _ (s : List ℕ) where
-  list-up : (at : ℕ) → at ≤ listEnd s at
-  unfolding listEnd
-  list-up at = omega arith
-
   path-up : (at : ℕ) → at ≤ pathEnd s at
   unfolding pathEnd
   path-up at = omega arith
 
-  name-up : (at : ℕ) → at ≤ nameEnd s at
-  unfolding nameEnd
-  name-up at = omega (arith, list-up (at + 10))
+  list-up : (at : ℕ) → at ≤ listEnd s at
+  list-up at = omega (arith, list-past s at)
 
-  node-up : (at : ℕ) → at ≤ nodeEnd s at
-  unfolding nodeEnd
-  node-up at = omega (arith, name-up at, list-up (nameEnd s at + 2))
+  name-up : (at : ℕ) → at ≤ nameEnd s at
+  name-up at = omega (arith, name-past s at)
 
   rule-of-up : (tag at : ℕ) → at ≤ ruleOfEnd s tag at
   unfolding ruleOfEnd
@@ -81,30 +75,19 @@ module _ (s : List ℕ) where
   unfolding ruleEnd
   rule-up at = omega (arith, rule-of-up (byte s at) (at + 1))
 
--- a table ends no earlier than it begins
-pub table-up : (end : ℕ → ℕ) → ((at : ℕ) → at ≤ end at) → (at n : ℕ) → at ≤ tableEnd end at n
-unfolding tableEnd
-table-up end h at zero = omega arith
-table-up end h at (suc n) = omega (arith, h at, table-up end h (end at) n)
-
-module _ (s : List ℕ) where
-  net-up : (at : ℕ) → at ≤ flatNetEnd s at
-  unfolding flatNetEnd nodeCountAt pairCountAt
-  net-up at = omega (arith, list-up s (at + 7), table-up (nodeEnd s) (node-up s) (nodeCountAt s at + 2) (be16 s (nodeCountAt s at)))
-
   pub part-up : (p : Part) (at : ℕ) → at ≤ partEnd s p at
   unfolding partEnd
-  part-up Path = path-up s
-  part-up Name = name-up s
-  part-up Rule = rule-up s
-  part-up Net = net-up
+  part-up Path = path-up
+  part-up Name = name-up
+  part-up Rule = rule-up
+  part-up Net = net-up s
   part-up Node = node-up s
-  part-up PathList = list-up s
+  part-up PathList = list-up
 
 -- ---- tables
 
 -- from past the end, as from the end, all is past the end
-end-within : (end : ℕ → ℕ) → ((at : ℕ) → at ≤ end at) → (s : List ℕ) (x : ℕ) → within s (end (within s x)) ≡ within s (end x)
+pub end-within : (end : ℕ → ℕ) → ((at : ℕ) → at ≤ end at) → (s : List ℕ) (x : ℕ) → within s (end (within s x)) ≡ within s (end x)
 end-within end up s x = elim (decLt (length s) x) [
   | yes l ↦ let k : within s x ≡ length s = omega arith in rw k (omega (arith, up (length s), up x))
   | no l ↦ let k : within s x ≡ x = omega arith in rw k

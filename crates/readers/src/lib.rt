@@ -1,6 +1,7 @@
 // What stands in the tables of a flat file: the limit, the counts, the place of each path, name, rule and net, and the parts at a place.
 // Every function has an answer everywhere: past the end a number is 0 and a place is the end.
-use kinds::{NameId, PathId};
+use kinds::NameId;
+use kinds::PathId;
 ghost use Prim.Native.Nat.{_+_, _*_};
 ghost use mathlib.Core.Path.{_≡_};
 ghost use lib.Dec.{eqb};

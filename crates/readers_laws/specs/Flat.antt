@@ -1,7 +1,6 @@
 -- A flat file that is read, through its readers: each count, place and part is the one of what was read that it names.
-use Prim.Native.Nat.{ℕ, suc, _+_, _*_, _<_, _≤_}
+use Prim.Native.Nat.{ℕ, suc, _+_, _<_, _≤_}
 use mathlib.Core.Path.{_≡_, refl, sym, subst}
-use mathlib.Core.Option.{Option}
 use mathlib.Core.List.{List}
 use native.Mathlib.Omega.{arith}
 use lib.ListN.{length, getD}
@@ -9,15 +8,15 @@ use Rattle.net_file.specs.Lists.{ok}
 use Rattle.net_file.specs.Values.{Name, Rule, FlatNet, File}
 use Rattle.net_file.specs.Read.{limitOf}
 use Rattle.net_file.specs.Checks.{flat, read}
-use Rattle.fields.specs.Fields.{byte, be16, be32}
-use Rattle.stored.specs.Stored.{tableAt, tableEnd, pathAt, pathEnd, nameAt, nameEnd, ruleAt, ruleEnd, flatNetAt, flatNetEnd, nameCountAt, ruleCountAt, netCountAt}
+use Rattle.fields.specs.Fields.{be16, be32}
+use Rattle.stored.specs.Stored.{tableEnd, pathAt, pathEnd, nameAt, nameEnd, ruleAt, ruleEnd, flatNetAt, flatNetEnd, nameCountAt, ruleCountAt, netCountAt}
 use Rattle.stored.specs.Laws.{table-length}
 use Rattle.stored.specs.Parts.{stands-net}
 use Rattle.stored.specs.Body.{pathsAt, namesAt, rulesAt, netsAt, bodyAt, bodyEnd}
-use Rattle.ends.specs.Ends.{within}
+use Rattle.ends.specs.Ends.{within, table-up}
 use Rattle.readers.specs.declared.Part.the-variants as part
 use Rattle.readers.specs.Readers.{partEnd}
-use Rattle.readers.specs.Places.{table-up, part-up}
+use Rattle.readers.specs.Places.{part-up}
 use Rattle.readers_laws.specs.Tables.{table-inside, table-next, table-read}
 use Rattle.readers_laws.specs.Parts.{PathStands, NameStands, NetStands, path-stands, name-stands, net-stands}
 use Rattle.readers_laws.specs.Rules.{RuleStands, rule-stands}
@@ -28,15 +27,19 @@ pub record FlatStands (s : List ℕ) (f : File FlatNet) : Type 0 where
   pub limit : f .limit ≡ limitOf (be32 s 5)
   pub pathCount : length (f .paths) ≡ be16 s 9
   pub pathInside : (k : ℕ) → k ≤ length (f .paths) → tableEnd (pathEnd s) 11 k ≤ length s
+  pub pathIs : (k a : ℕ) (d : List ℕ) → k < length (f .paths) → a ≡ within s (tableEnd (pathEnd s) 11 k) → getD (f .paths) k d ≡ pathAt s a
   pub path : (k a : ℕ) (d : List ℕ) → k < length (f .paths) → a ≡ within s (tableEnd (pathEnd s) 11 k) → PathStands s (getD (f .paths) k d) a
   pub nameCount : length (f .names) ≡ be16 s (nameCountAt s)
   pub nameInside : (k : ℕ) → k ≤ length (f .names) → tableEnd (nameEnd s) (nameCountAt s + 2) k ≤ length s
+  pub nameIs : (k a : ℕ) (d : Name) → k < length (f .names) → a ≡ within s (tableEnd (nameEnd s) (nameCountAt s + 2) k) → getD (f .names) k d ≡ nameAt s a
   pub name : (k a : ℕ) (d : Name) → k < length (f .names) → a ≡ within s (tableEnd (nameEnd s) (nameCountAt s + 2) k) → NameStands s (getD (f .names) k d) a
   pub ruleCount : length (f .rules) ≡ be16 s (ruleCountAt s)
   pub ruleInside : (k : ℕ) → k ≤ length (f .rules) → tableEnd (ruleEnd s) (ruleCountAt s + 2) k ≤ length s
+  pub ruleIs : (k a : ℕ) (d : Rule) → k < length (f .rules) → a ≡ within s (tableEnd (ruleEnd s) (ruleCountAt s + 2) k) → getD (f .rules) k d ≡ ruleAt s a
   pub rule : (k a : ℕ) (d : Rule) → k < length (f .rules) → a ≡ within s (tableEnd (ruleEnd s) (ruleCountAt s + 2) k) → RuleStands s (getD (f .rules) k d) a
   pub netCount : length (f .nets) ≡ be16 s (netCountAt s)
   pub netInside : (k : ℕ) → k ≤ length (f .nets) → tableEnd (flatNetEnd s) (netCountAt s + 2) k ≤ length s
+  pub netIs : (k a : ℕ) (d : FlatNet) → k < length (f .nets) → a ≡ within s (tableEnd (flatNetEnd s) (netCountAt s + 2) k) → getD (f .nets) k d ≡ flatNetAt s a
   pub net : (k a : ℕ) (d : FlatNet) → k < length (f .nets) → a ≡ within s (tableEnd (flatNetEnd s) (netCountAt s + 2) k) → NetStands s (getD (f .nets) k d) a
 
 module _ (s : List ℕ) (f : File FlatNet) (e : read flat s ≡ ok f) where
@@ -130,15 +133,19 @@ module _ (s : List ℕ) (f : File FlatNet) (e : read flat s ≡ ok f) where
     limit = body-limit;
     pathCount = path-count;
     pathInside = λ k h. path-inside k (rw path-count at h);
+    pathIs = λ k a d h i. path-get k a d (rw path-count at h) i;
     path = λ k a d h i. rw (path-get k a d (rw path-count at h) i) (path-stands s a);
     nameCount = name-count;
     nameInside = λ k h. name-inside k (rw name-count at h);
+    nameIs = λ k a d h i. name-get k a d (rw name-count at h) i;
     name = λ k a d h i. rw (name-get k a d (rw name-count at h) i) (name-stands s a);
     ruleCount = rule-count;
     ruleInside = λ k h. rule-inside k (rw rule-count at h);
+    ruleIs = λ k a d h i. rule-get k a d (rw rule-count at h) i;
     rule = λ k a d h i. let l : k < be16 s (ruleCountAt s) = rw rule-count at h in rw (rule-get k a d l i) (rule-at k a l i);
     netCount = net-count;
     netInside = λ k h. net-inside k (rw net-count at h);
+    netIs = λ k a d h i. net-get k a d (rw net-count at h) i;
     net = λ k a d h i. let l : k < be16 s (netCountAt s) = rw net-count at h in rw (net-get k a d l i) (net-at k a l i);
   }
 

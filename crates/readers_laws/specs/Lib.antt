@@ -1,4 +1,5 @@
 pub mod Tables
+pub mod Steps
 pub mod Parts
 pub mod Rules
 pub mod Reads

@@ -1,7 +1,7 @@
 -- The parts of a path, a name, a node and a flat net that stands at a place, each by the equation that its reader promises.
-use Prim.Native.Nat.{ℕ, zero, suc, _+_, _*_, _<_, _≤_}
+use Prim.Native.Nat.{ℕ, _+_, _*_, _<_, _≤_}
 use mathlib.Core.Path.{_≡_, refl, sym, ap, _∙_}
-use mathlib.Core.List.{List, [], _∷_}
+use mathlib.Core.List.{List}
 use native.Mathlib.Omega.{arith}
 use lib.ListN.{length, getD}
 use lib.Dec.{eqb}
@@ -14,7 +14,7 @@ use Rattle.ends.specs.Ends.{within}
 use Rattle.readers.specs.declared.Part.the-variants.{Node}
 use Rattle.readers.specs.Readers.{partEnd}
 use Rattle.readers.specs.Places.{be16-clamped, be16-after, part-up}
-use Rattle.readers_laws.specs.Tables.{table-get, table-inside, list-length, list-get, path-get, pairs-length, pairs-get}
+use Rattle.readers_laws.specs.Tables.{table-inside, table-read, list-length, list-get, path-get, pairs-length, pairs-get}
 
 module _ (s : List ℕ) where
   pub record PathStands (p : List ℕ) (at : ℕ) : Type 0 where
@@ -53,6 +53,7 @@ module _ (s : List ℕ) where
     pub pair : (j a : ℕ) (d : ℕ × ℕ) → j < length (n .pairs) → a ≡ within s (pairCountAt s at + (2 + 4 * j)) → PairStands (getD (n .pairs) j d) a
     pub nodeCount : length (n .nodes) ≡ be16 s (nodeCountAt s at)
     pub nodeInside : (k : ℕ) → k ≤ length (n .nodes) → tableEnd (nodeEnd s) (nodeCountAt s at + 2) k ≤ length s
+    pub nodeIs : (k a : ℕ) (d : FlatNode) → k < length (n .nodes) → a ≡ within s (tableEnd (nodeEnd s) (nodeCountAt s at + 2) k) → getD (n .nodes) k d ≡ nodeAt s a
     pub node : (k a : ℕ) (d : FlatNode) → k < length (n .nodes) → a ≡ within s (tableEnd (nodeEnd s) (nodeCountAt s at + 2) k) → NodeStands (getD (n .nodes) k d) a
 
   pub path-stands : (at : ℕ) → PathStands (pathAt s at) at
@@ -99,9 +100,9 @@ module _ (s : List ℕ) where
     unfolding flatNetEnd count start partEnd
     node-inside k h = omega (arith, table-inside (nodeEnd s) (part-up s Node) start count k h)
 
-    node-get : (k : ℕ) (d : FlatNode) → k < count → getD (flatNetAt s at .nodes) k d ≡ nodeAt s (tableEnd (nodeEnd s) start k)
-    unfolding flatNetAt nodesAt count start
-    node-get k d h = table-get (nodeAt s) (nodeEnd s) start count k d h
+    node-get : (k a : ℕ) (d : FlatNode) → k < count → a ≡ within s (tableEnd (nodeEnd s) start k) → getD (flatNetAt s at .nodes) k d ≡ nodeAt s a
+    unfolding flatNetAt flatNetEnd nodesAt count start partEnd
+    node-get = table-read s (nodeAt s) (nodeEnd s) (part-up s Node) start count inside
 
     pair-count : length (flatNetAt s at .pairs) ≡ be16 s (pairCountAt s at)
     unfolding flatNetAt
@@ -125,8 +126,6 @@ module _ (s : List ℕ) where
       pair = λ j a d h e. rw (pair-get j d (rw pair-count at h)) (pair-stands (pairCountAt s at + (2 + 4 * j)) a e);
       nodeCount = node-count;
       nodeInside = λ k h. node-inside k (rw node-count at h);
-      node = λ k a d h e.
-          let l : k < be16 s (nodeCountAt s at) = rw node-count at h in
-          let i : a ≡ tableEnd (nodeEnd s) (nodeCountAt s at + 2) k = omega (arith, node-inside k (omega arith)) in
-          rw (node-get k d l, ← i) (node-stands a);
+      nodeIs = λ k a d h e. node-get k a d (rw node-count at h) e;
+      node = λ k a d h e. rw (node-get k a d (rw node-count at h) e) (node-stands a);
     }

@@ -1,18 +1,19 @@
 -- A file that is read is what stands in its bytes; and the parser of each rule has read at the rule's place.
 use Prim.Native.Nat.{ℕ, zero, suc, _+_, _<_, _≤_}
-use mathlib.Core.Path.{_≡_, refl, sym, ap, _∙_}
-use mathlib.Core.Option.{Option, none, some}
+use mathlib.Core.Path.{_≡_}
+use mathlib.Core.Option.{some}
 use mathlib.Core.List.{List}
 use native.Mathlib.Omega.{arith}
 use lib.ListN.{length, drop}
 use Rattle.net_file.specs.Lists.{ok}
 use Rattle.net_file.specs.Values.{File}
-use Rattle.net_file.specs.Read.{Parser, _>>=_, number, below, timesFrom, times, many, readPath, readName, readTagged, readRule, pathsFit, readBody}
+use Rattle.net_file.specs.Read.{Parser, _>>=_, timesFrom, times, many, readPath, readName, readTagged, readRule, pathsFit, readBody}
 use Rattle.net_file.specs.Checks.{Version, read}
-use Rattle.net_file_laws.specs.Header.{Headed, Accepted, read-passed}
+use Rattle.net_file_laws.specs.Header.{Accepted, read-passed}
 use Rattle.fields.specs.Fields.{byte, be16}
 use Rattle.stored.specs.Stored.{tableEnd, pathAt, pathEnd, nameAt, nameEnd, ruleAt, ruleEnd, nameCountAt, ruleCountAt}
 use Rattle.stored.specs.Laws.{Stands, bound, stands-byte, stands-2, stands-4, stands-such, stands-below, stands-many, stands-timesFrom}
+use Rattle.stored.specs.Pass.{pass}
 use Rattle.stored.specs.Parts.{stands-path, stands-name, stands-rule}
 use Rattle.stored.specs.Body.{pathsAt, bodyAt, bodyEnd, stands-body}
 
@@ -31,10 +32,9 @@ module _ {s : List ℕ} where
       record { value = w .value; rest = w .rest; inside = r .inside; reads = w .first }
 
   runs-next : {A B : Type 0} {p : Parser A} (f : A → Parser B) {at : ℕ} {a : A} {m : ℕ} → Stands s p at a m → Runs s (p >>= f) at → Runs s (f a) m
-  runs-next {p = p} f {at = at} h r =
-      let w = bound p f (drop at s) (r .value) (r .rest) (r .reads) in
-      let y = h .by (w .value) (w .rest) (r .inside) (w .first) in
-      record { value = r .value; rest = r .rest; inside = y .3; reads = rw (y .0, y .1) at (w .next) }
+  runs-next f h r =
+      let w = pass f (r .value) (r .rest) h (r .inside) (r .reads) in
+      record { value = r .value; rest = r .rest; inside = w .inside; reads = w .next }
 
   -- each of a table
   runs-each : {A : Type 0} (p : ℕ → Parser A) (one : ℕ → A) (end : ℕ → ℕ) → ((i at : ℕ) → Stands s (p i) at (one at) (end at))

@@ -1,12 +1,10 @@
 -- A rule that stands at a place, by its tag: which of the five it is, and its lists where `rule_list_place` finds them.
-use Prim.Native.Nat.{ℕ, zero, suc, _+_, _*_, _<_, _≤_}
-use mathlib.Core.Path.{_≡_, refl, sym, ap, _∙_}
+use Prim.Native.Nat.{ℕ, _+_, _≤_}
+use mathlib.Core.Path.{_≡_}
 use mathlib.Core.List.{List}
 use native.Mathlib.Omega.{arith}
-use lib.ListN.{length}
 use lib.Dec.{eqb}
 use Rattle.net_file.specs.Values.{Rule, graft, annihilate, erase, commute, eta}
-use Rattle.net_file.specs.Values
 use Rattle.fields.specs.Fields.{byte, be16}
 use Rattle.stored.specs.Stored.{tableEnd, listAt, listEnd, ruleOf, ruleAt}
 use Rattle.ends.specs.Ends.{within}

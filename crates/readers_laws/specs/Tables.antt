@@ -1,15 +1,16 @@
 -- The k-th of a table, and the place of the k-th: one law for every table of a file.
 use Prim.Native.Nat.{ℕ, zero, suc, _+_, _*_, _<_, _≤_}
 use mathlib.Core.Path.{_≡_, refl, sym, ap, _∙_}
-use mathlib.Core.List.{List, [], _∷_}
+use mathlib.Core.List.{List, []}
 use native.Mathlib.Omega.{arith}
 use native.Mathlib.Decide.{decLt}
+use native.Mathlib.Numerals.{add-one}
 use lib.ListN.{length, getD}
 use Rattle.fields.specs.Fields.{byte, be16, byte-past}
 use Rattle.stored.specs.Stored.{tableAt, tableEnd, numbersAt, listAt, bytesAt, pathAt, pairAt, pairsAt}
 use Rattle.stored.specs.Laws.{table-length, table-steps}
-use Rattle.ends.specs.Ends.{within}
-use Rattle.readers.specs.Places.{table-up}
+use Rattle.ends.specs.Ends.{within, table-up}
+use Rattle.readers.specs.Places.{end-within}
 
 pub table-get : {A : Type 0} (one : ℕ → A) (end : ℕ → ℕ) (at n k : ℕ) (d : A) → k < n → getD (tableAt one end at n) k d ≡ one (tableEnd end at k)
 unfolding tableAt tableEnd
@@ -79,3 +80,8 @@ pub table-read : {A : Type 0} (s : List ℕ) (one : ℕ → A) (end : ℕ → �
 table-read s one end up at n l k a d h e =
     let i : tableEnd end at k ≡ a = omega (arith, table-inside end up at n k (omega arith)) in
     table-get one end at n k d h ∙ ap one i
+
+-- from the place of the k-th to the place of the next, as a loop goes
+pub table-step : (s : List ℕ) (end : ℕ → ℕ) → ((at : ℕ) → at ≤ end at) → (at k a b : ℕ) → a ≡ within s (tableEnd end at k) → b ≡ within s (end a)
+    → b ≡ within s (tableEnd end at (k + 1))
+table-step s end up at k a b e h = h ∙ rw (e, add-one, table-next end at k) (end-within end up s (tableEnd end at k))

@@ -8,7 +8,7 @@ use Rattle.orders_tree.proofs.names_ascend.Reads as reads
 use Rattle.orders_tree.proofs.names_ascend.Lts as lts
 use Rattle.fields.proofs.be16.Reads as be16-reads
 use Rattle.orders.proofs.name_fits.Reads as name-fits-reads
-use Rattle.scan_tree.proofs.net.Reads as net-reads
+use Rattle.scan_tree.proofs.count_net.Reads as count-net-reads
 
 abbrev Inv-loop : tie.InvT-loop
 Inv-loop s from n at₀ last₀ k₀ at last k = namesFrom last s at k ≡ namesFrom 0 s from n
@@ -37,8 +37,8 @@ add-last : tie.Need-add-last Inv-loop μ-loop
 add-last c = omega arith
 
 -- src/lib.rt:15:17
-net-requires : tie.Need-net-requires Inv-loop μ-loop
-net-requires c κs = search needs
+count-net-requires : tie.Need-count-net-requires Inv-loop μ-loop
+count-net-requires c κs = search needs
 
 -- src/lib.rt:17:13
 sub-k : tie.Need-sub-k Inv-loop μ-loop
@@ -71,7 +71,7 @@ names-ascend-spec =
     be16-requires
     cast-last
     add-last
-    net-requires
+    count-net-requires
     sub-k
     loop-less
     loop-again
