@@ -4,7 +4,7 @@ use mathlib.Core.Path.{_≡_, refl, sym, ap, _∙_}
 use mathlib.Core.Bool.{Bool, true, false, not, _&&_}
 use mathlib.Core.Option.{some}
 use mathlib.Core.List.{List, map}
-use Rattle.words.specs.Choose.{pick}
+use Rattle.words.specs.Choose.{pick, pick-true, pick-false}
 use Rattle.net_file.specs.Lists.{need, ok, refuse, all, any, distinct, eqs, ascend}
 use Rattle.net_file.specs.Values.{File}
 use Rattle.net_file.specs.Checks.{Version, sameName, namesFree, ordered, wired, freeNamed, checked}
@@ -24,15 +24,52 @@ use Rattle.net_check.specs.Verdict.{verdict}
 unfoldable pub later : Bool → Bool → Bool → Bool → Checked
 later differ order wire free = pick differ (pick order (pick wire (pick free (Refused 8) Accepted) (Refused 7)) (Refused 6)) (Refused 6)
 
-unfoldable pub flatLater : List ℕ → Checked
-flatLater s =
+-- with the order and the wiring of the version's nets, which stand after the net count
+unfoldable pub laterBy : (List ℕ → ℕ → ℕ → Bool) → (List ℕ → ℕ → ℕ → Bool) → List ℕ → Checked
+laterBy order wire s =
     let q = within s (netCountAt s) in
-    later (offset.tablesDiffer s) (netsOrdered s (on s q 2) (be16 s q)) (flatly.netsWired s (on s q 2) (be16 s q)) (offset.freeNamed s)
+    later (offset.tablesDiffer s) (order s (on s q 2) (be16 s q)) (wire s (on s q 2) (be16 s q)) (offset.freeNamed s)
+
+unfoldable pub flatLater : List ℕ → Checked
+flatLater s = laterBy netsOrdered flatly.netsWired s
 
 unfoldable pub treeLater : List ℕ → Checked
-treeLater s =
-    let q = within s (netCountAt s) in
-    later (offset.tablesDiffer s) (namesFrom 0 s (on s q 2) (be16 s q)) (treely.netsWired s (on s q 2) (be16 s q)) (offset.freeNamed s)
+treeLater s = laterBy (namesFrom 0) treely.netsWired s
+
+-- ---- each way out
+
+module _ (order wire : List ℕ → ℕ → ℕ → Bool) (s : List ℕ) (d : Bool) (ed : d ≡ offset.tablesDiffer s) where
+  pub later-tables : d ≡ false → Refused 6 ≡ laterBy order wire s
+  unfolding laterBy later
+  later-tables f = pick-false _ _ _ (sym ed ∙ f) refl
+
+  module _ (q n from : ℕ) (yd : d ≡ true) (eq : q ≡ within s (netCountAt s)) (en : n ≡ be16 s q) (ef : from ≡ on s q 2) (o : Bool) (eo : o ≡ order s from n) where
+    -- the nets where they stand
+    order-is : o ≡ order s (on s (within s (netCountAt s)) 2) (be16 s (within s (netCountAt s)))
+    order-is = eo ∙ rw (ef, en, eq)
+
+    pub later-order : o ≡ false → Refused 6 ≡ laterBy order wire s
+    unfolding laterBy later
+    later-order f = pick-true _ _ _ (sym ed ∙ yd) (pick-false _ _ _ (sym order-is ∙ f) refl)
+
+    module _ (w : Bool) (yo : o ≡ true) (ew : w ≡ wire s from n) where
+      wire-is : w ≡ wire s (on s (within s (netCountAt s)) 2) (be16 s (within s (netCountAt s)))
+      wire-is = ew ∙ rw (ef, en, eq)
+
+      pub later-wire : w ≡ false → Refused 7 ≡ laterBy order wire s
+      unfolding laterBy later
+      later-wire f = pick-true _ _ _ (sym ed ∙ yd) (pick-true _ _ _ (sym order-is ∙ yo) (pick-false _ _ _ (sym wire-is ∙ f) refl))
+
+      module _ (n′ : Bool) (yw : w ≡ true) (en′ : n′ ≡ offset.freeNamed s) where
+        pub later-free : n′ ≡ true → Refused 8 ≡ laterBy order wire s
+        unfolding laterBy later
+        later-free f =
+            pick-true _ _ _ (sym ed ∙ yd) (pick-true _ _ _ (sym order-is ∙ yo) (pick-true _ _ _ (sym wire-is ∙ yw) (pick-true _ _ _ (sym en′ ∙ f) refl)))
+
+        pub later-none : n′ ≡ false → Accepted ≡ laterBy order wire s
+        unfolding laterBy later
+        later-none f =
+            pick-true _ _ _ (sym ed ∙ yd) (pick-true _ _ _ (sym order-is ∙ yo) (pick-true _ _ _ (sym wire-is ∙ yw) (pick-false _ _ _ (sym en′ ∙ f) refl)))
 
 -- ---- what they mean
 
