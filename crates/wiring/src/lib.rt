@@ -52,9 +52,9 @@ pub fn tally_nodes(counts: &mut [u32], base: u16, s: &[u8], from: usize, n: u32)
 fn tally_free(counts: &mut [u32], base: u16, s: &[u8], at: usize)
     ensures { λ _. ⌜ now (counts .exit) ≡ tally (now (counts .entry)) base (freeWires (now (s .entry)) at) ⌝ }
 {
-    let k = fields::byte(s, ends::on(s, at, 7));
-    let from = ends::on(s, at, 8);
-    tally_run(counts, base, s, from, k as u32)
+    let free = fields::byte(s, ends::on(s, at, 7));
+    let first = ends::on(s, at, 8);
+    tally_run(counts, base, s, first, free as u32)
 }
 
 fn tally_pairs(counts: &mut [u32], base: u16, s: &[u8], at: usize)
