@@ -63,7 +63,7 @@ module _ {Net : Type 0} (readNet : ℕ → ℕ → Parser Net) (netAt : List ℕ
           fit = passed (pathsFit (pathsAt s)) _ _ _ _ (c .first);
           names = record { few = omega arith; inside = d .inside; rest = _; read = ap (λ n. timesFrom (readName n) 0 (be16 s (nameCountAt s)) (drop (nameCountAt s + 2) s)) (sym np) ∙ e .first };
           rules = subst (λ n. Table s (λ j. times j (readRule n)) (ruleCountAt s) (rulesAt s) 64) np
-            (counted (readRule (length (pathsAt s))) (ruleAt s) (ruleEnd s) _ 64 _ _ (stands-rule s _) (e .inside) (k .first));
+              (counted (readRule (length (pathsAt s))) (ruleAt s) (ruleEnd s) _ 64 _ _ (stands-rule s _) (e .inside) (k .first));
           nets = subst₂ (λ n j. Table s (λ i. times i (readNet n j)) (netCountAt s) (netsAt netAt netEnd s) 256) np nm
-            (counted (readNet (length (pathsAt s)) (length (namesAt s))) (netAt s) (netEnd s) _ 256 _ _ (h _ _) (k .inside) (m .first));
+              (counted (readNet (length (pathsAt s)) (length (namesAt s))) (netAt s) (netEnd s) _ 256 _ _ (h _ _) (k .inside) (m .first));
         }

@@ -91,10 +91,10 @@ module _ (s : List ℕ) (b : (i : ℕ) → getD s i 0 < 256) where
       let p = nets-place s (t .inside) in
       (λ i. later (offset.tablesDiffer s) (netsOrdered s (p .1 i) (be16 s (p .0 i))) (flatly.netsWired s (p .1 i) (be16 s (p .0 i))) (offset.freeNamed s))
       ∙ later-exact flat (bodyAt flatNetAt flatNetEnd s) (drop (bodyEnd flatNetAt flatNetEnd s) s) _ _ _ _
-        (tables-differ readFlatNet flatNetAt flatNetEnd s g b)
-        (nets-ordered s (be16 s 9) _ (be16 s (netCountAt s)) (netCountAt s + 2) _ (t .rest) (t .read) (t .inside) (t .few))
-        (λ o. flatlaws.nets-wired s (be16 s 9) _ (netCountAt s + 2) (be16 s (netCountAt s)) _ (t .rest) (t .read) (t .inside) (t .few) o)
-        (free-is-named readFlatNet flatNetAt flatNetEnd s g)
+      (tables-differ readFlatNet flatNetAt flatNetEnd s g b)
+      (nets-ordered s (be16 s 9) _ (be16 s (netCountAt s)) (netCountAt s + 2) _ (t .rest) (t .read) (t .inside) (t .few))
+      (λ o. flatlaws.nets-wired s (be16 s 9) _ (netCountAt s + 2) (be16 s (netCountAt s)) _ (t .rest) (t .read) (t .inside) (t .few) o)
+      (free-is-named readFlatNet flatNetAt flatNetEnd s g)
 
   -- ---- tree nets
 
@@ -114,11 +114,11 @@ module _ (s : List ℕ) (b : (i : ℕ) → getD s i 0 < 256) where
       let p = nets-place s (t .inside) in
       (λ i. later (offset.tablesDiffer s) (namesFrom 0 s (p .1 i) (be16 s (p .0 i))) (treely.netsWired s (p .1 i) (be16 s (p .0 i))) (offset.freeNamed s))
       ∙ later-exact tree (bodyAt treeNetAt treeNetEnd s) (drop (bodyEnd treeNetAt treeNetEnd s) s) _ _ _ _
-        (tables-differ readTreeNet treeNetAt treeNetEnd s g b)
-        (names-ascend s (be16 s 9) _ (be16 s (netCountAt s)) (netCountAt s + 2) _ (t .rest) (t .read) (t .inside)
-          ∙ and-true _ ∙ ap (λ a. ascend (map (λ x. x .name) (netsAt treeNetAt treeNetEnd s)) && a) (sym (no-pairs (netsAt treeNetAt treeNetEnd s))))
-        (λ o. treelaws.nets-wired s (be16 s 9) _ (be16 s (netCountAt s)) (netCountAt s + 2) _ (t .rest) (t .few) (t .inside) (t .read))
-        (free-is-named readTreeNet treeNetAt treeNetEnd s g)
+      (tables-differ readTreeNet treeNetAt treeNetEnd s g b)
+      (names-ascend s (be16 s 9) _ (be16 s (netCountAt s)) (netCountAt s + 2) _ (t .rest) (t .read) (t .inside)
+      ∙ and-true _ ∙ ap (λ a. ascend (map (λ x. x .name) (netsAt treeNetAt treeNetEnd s)) && a) (sym (no-pairs (netsAt treeNetAt treeNetEnd s))))
+      (λ o. treelaws.nets-wired s (be16 s 9) _ (be16 s (netCountAt s)) (netCountAt s + 2) _ (t .rest) (t .few) (t .inside) (t .read))
+      (free-is-named readTreeNet treeNetAt treeNetEnd s g)
 
 -- ---- the ways out of the two checkers
 

@@ -102,4 +102,4 @@ unfolding checked ordered wired freeNamed
 later-exact v f r differ order wire free ed eo ew ef =
     (λ i. later (ed i) (eo i) wire free)
     ∙ as-checked f (distinct eqs (f .paths)) (distinct sameName (f .names)) (ascend (map (v .nameOf) (f .nets))) (all (v .pairsOrdered) (f .nets)) wire free
-      (all (v .wellWired) (f .nets)) (any (namesFree (f .paths)) (f .rules)) ew ef
+    (all (v .wellWired) (f .nets)) (any (namesFree (f .paths)) (f .rules)) ew ef

@@ -48,7 +48,7 @@ module _ (s : List ℕ) (at np : ℕ) where
   names-on k w i h e l ew =
       ew ∙ ap (λ n. after (at + 2) (timesFrom (readName np) 0 n) s) e
       ∙ sym (after-bind (below 2 1025) (λ n. timesFrom (readName np) 0 n) s at (be16 s at) (at + 2) (omega arith)
-        (below-in 2 1025 (drop at s) _ _ (in-2 s at (omega arith)) (omega arith)) (omega arith))
+      (below-in 2 1025 (drop at s) _ _ (in-2 s at (omega arith)) (omega arith)) (omega arith))
 
 -- ---- the path table
 

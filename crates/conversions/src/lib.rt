@@ -1,0 +1,1 @@
+// Conversions and pruning: definitions only, in specs/.
