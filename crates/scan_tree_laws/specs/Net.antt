@@ -14,7 +14,7 @@ use Rattle.net_file.specs.Read.{_>>=_, give, times, readTree, readLink, readTre
 use Rattle.net_file.specs.Checks.{wiresOf, nodesOf, treesOf, tree}
 use Rattle.fields.specs.Fields.{byte, be16, be32}
 use Rattle.stored.specs.Stored.{tableAt}
-use Rattle.stored.specs.Laws.{bound, stands-as, stands-1, stands-2, stands-4, stands-below, stands-many, stands-times}
+use Rattle.stored.specs.Laws.{bound, table-length, stands-as, stands-1, stands-2, stands-4, stands-below, stands-many, stands-times}
 use Rattle.stored.specs.Parts.{stands-bit}
 use Rattle.stored_tree.specs.Tree.{treeAt, treeEnd, linkAt, linkEnd, linkCountAt, treeNetAt, treeNetEnd}
 use Rattle.stored_tree.specs.Parts.{stands-tree, stands-link, stands-tree-net}
@@ -22,7 +22,7 @@ use Rattle.walk.specs.Loops.{times-suc}
 use Rattle.scan_tree.specs.Count.{linksAt, netNodes, netWires, netEnd, netsNodes}
 use Rattle.stored.specs.Pass.{pass}
 use Rattle.scan_tree_laws.specs.Scanned.{Scanned, scanned-wires, scanned-nodes, scanned-end, concat-append, sum-append}
-use Rattle.scan_tree_laws.specs.Trees.{table-length, scans-many, scans-counted, scans-tree, scans-link}
+use Rattle.scan_tree_laws.specs.Trees.{scans-many, scans-counted, scans-tree, scans-link}
 
 -- the trees of links, two for each
 abbrev linkTrees : Tree × Tree → List Tree
@@ -69,11 +69,11 @@ module _ (s : List ℕ) (paths names at : ℕ) where
 
     free-many : length (treeNetAt s at .free) ≡ byte s (at + 7)
     unfolding treeNetAt
-    free-many = table-length (treeAt s 64) (treeEnd s 64) (at + 8) (byte s (at + 7))
+    free-many = table-length s (treeAt s 64) (treeEnd s 64) (at + 8) (byte s (at + 7))
 
     links-many : length (concatMap linkTrees (treeNetAt s at .links)) ≡ 2 * be16 s (linkCountAt s at)
     unfolding treeNetAt
-    links-many = links-length (tableAt (linkAt s) (linkEnd s) _ _) ∙ ap (λ n. 2 * n) (table-length (linkAt s) (linkEnd s) _ _)
+    links-many = links-length (tableAt (linkAt s) (linkEnd s) _ _) ∙ ap (λ n. 2 * n) (table-length s (linkAt s) (linkEnd s) _ _)
 
     -- the scan finds the link count
     links-place : linksAt s at ≡ linkCountAt s at

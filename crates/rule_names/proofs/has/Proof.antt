@@ -1,5 +1,5 @@
 use Rattle.rule_names.specs.Steps.{has-past, has-short, has-start, has-more, has-yes, has-done}
-use Rattle.rule_names.specs.RuleNames.{run}
+use Rattle.ends.specs.Runs.{run}
 use Rattle.stored.specs.Stored.{numbersAt}
 use Rattle.net_file.specs.Lists.{any}
 use lib.Dec.{eqb}

@@ -1,5 +1,5 @@
 use Rattle.wiring.specs.Steps.{tally-past, tally-short, tally-start, tally-more, tally-done}
-use Rattle.wiring.specs.Wiring.{run}
+use Rattle.ends.specs.Runs.{run}
 use Rattle.tally.specs.Tally.{tally}
 use Rattle.stored.specs.Stored.{numbersAt}
 use lib.ListN.{length}

@@ -1,5 +1,6 @@
 use Rattle.wiring.specs.Steps.{twice-past, twice-short, twice-start, twice-more, twice-no, twice-done}
-use Rattle.wiring.specs.Wiring.{run, twice}
+use Rattle.ends.specs.Runs.{run}
+use Rattle.wiring.specs.Wiring.{twice}
 use Rattle.net_file.specs.Lists.{all}
 use Rattle.stored.specs.Stored.{numbersAt}
 use lib.ListN.{length}
