@@ -1,16 +1,13 @@
--- The scan of a net that is read tells its wires, its nodes and its end; and over nets, whether they have at most 4,096 nodes.
-use Prim.Native.Nat.{ℕ, zero, suc, _+_, _*_, _≤_, min}
+-- The scan of a net that is read tells its wires, its nodes and its end; and over nets, how many nodes they have.
+use Prim.Native.Nat.{ℕ, zero, suc, _+_, _*_, _≤_}
 use mathlib.Core.Path.{_≡_, refl, sym, ap, _∙_}
 use mathlib.Core.Option.{some}
 use mathlib.Core.List.{List, [], _∷_, map}
 use native.Mathlib.Omega.{arith}
-use native.Mathlib.Decide.{decLt}
 use lib.ListN.{length, drop}
-use lib.Dec.{leb}
-use borrow.Author.Tests.{le-leb, lt-leb}
 use Rattle.net_file.specs.Lists.{concatMap, sum}
 use Rattle.net_file.specs.Values.{Tree, TreeNet}
-use Rattle.net_file.specs.Read.{_>>=_, give, times, readTree, readLink, readTreeNet, nodesFit}
+use Rattle.net_file.specs.Read.{_>>=_, give, times, readTree, readLink, readTreeNet}
 use Rattle.net_file.specs.Checks.{wiresOf, nodesOf, treesOf, tree}
 use Rattle.fields.specs.Fields.{byte, be16, be32}
 use Rattle.stored.specs.Stored.{tableAt}
@@ -120,11 +117,3 @@ module _ (s : List ℕ) (paths names : ℕ) where
     nets-nodes =
         rw (stands-times s (readTreeNet paths names) (treeNetAt s) (treeNetEnd s) (stands-tree-net s paths names) n at .by ns r i h .0)
         (stored-nodes n at ns r i h)
-
-    -- the test on what `scan_tree::nets_nodes` answers is check 5's on the nodes of the file
-    pub nodes-fit : nodesFit (tree .nodes) ns ≡ leb (min 4097 (netsNodes s at n)) 4096
-    unfolding nodesFit
-    nodes-fit = rw (← nets-nodes) (elim (decLt 4096 (netsNodes s at n)) [
-      | yes l ↦ lt-leb (netsNodes s at n) 4096 l ∙ sym (lt-leb (min 4097 (netsNodes s at n)) 4096 (omega arith))
-      | no l ↦ le-leb (netsNodes s at n) 4096 (omega arith) ∙ sym (le-leb (min 4097 (netsNodes s at n)) 4096 (omega arith))
-    ])

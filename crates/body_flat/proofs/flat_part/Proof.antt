@@ -1,23 +1,24 @@
-use Rattle.body_flat.specs.Flat.{flat-short, flat-high, flat-bad, flat-many, flat-all, flat-left}
+use Rattle.body_flat.specs.Flat.{flatNets}
+use Rattle.body.specs.Nets.{part-short, part-high, part-bad, part-many, part-all, part-left}
 use native.Mathlib.Omega.{arith}
 use borrow.Author.Needs.{needs}
 use Rattle.body_flat.proofs.flat_part.Statement.{statement}
 use Rattle.body_flat.proofs.flat_part.Tie as tie
 
 returns : tie.Need-returns
-returns c = flat-short _ _ _ _ (omega arith)
+returns c = part-short flatNets _ _ _ _ (omega arith)
 
 sub-if2 : tie.Need-sub-if2
 sub-if2 c = search needs
 
 returns-2 : tie.Need-returns-2
-returns-2 c = flat-short _ _ _ _ (omega arith)
+returns-2 c = part-short flatNets _ _ _ _ (omega arith)
 
 be16-requires : tie.Need-be16-requires
 be16-requires c κs = search needs
 
 returns-3 : tie.Need-returns-3
-returns-3 c = search flat-high
+returns-3 c = search (part-high flatNets)
 
 add-flat-nets : tie.Need-add-flat-nets
 add-flat-nets c = search needs
@@ -35,7 +36,7 @@ enum-told : tie.Need-enum-told
 enum-told c = search needs
 
 returns-4 : tie.Need-returns-4
-returns-4 c = search flat-bad
+returns-4 c = search (part-bad flatNets)
 
 add-nets-nodes : tie.Need-add-nets-nodes
 add-nets-nodes c = search needs
@@ -47,13 +48,13 @@ nets-nodes-requires : tie.Need-nets-nodes-requires
 nets-nodes-requires c κs = search needs
 
 returns-5 : tie.Need-returns-5
-returns-5 c = search flat-many
+returns-5 c = search (part-many flatNets)
 
 returns-6 : tie.Need-returns-6
-returns-6 c = search flat-all
+returns-6 c = search (part-all flatNets)
 
 returns-7 : tie.Need-returns-7
-returns-7 c = search flat-left
+returns-7 c = search (part-left flatNets)
 
 pub flat-part-spec : {M : Type 1} → statement M
 flat-part-spec =

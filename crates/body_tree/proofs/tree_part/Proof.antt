@@ -1,23 +1,24 @@
-use Rattle.body_tree.specs.Tree.{tree-short, tree-high, tree-bad, tree-many, tree-all, tree-left}
+use Rattle.body_tree.specs.Tree.{treeNets}
+use Rattle.body.specs.Nets.{part-short, part-high, part-bad, part-many, part-all, part-left}
 use native.Mathlib.Omega.{arith}
 use borrow.Author.Needs.{needs}
 use Rattle.body_tree.proofs.tree_part.Statement.{statement}
 use Rattle.body_tree.proofs.tree_part.Tie as tie
 
 returns : tie.Need-returns
-returns c = tree-short _ _ _ _ (omega arith)
+returns c = part-short treeNets _ _ _ _ (omega arith)
 
 sub-if2 : tie.Need-sub-if2
 sub-if2 c = search needs
 
 returns-2 : tie.Need-returns-2
-returns-2 c = tree-short _ _ _ _ (omega arith)
+returns-2 c = part-short treeNets _ _ _ _ (omega arith)
 
 be16-requires : tie.Need-be16-requires
 be16-requires c κs = search needs
 
 returns-3 : tie.Need-returns-3
-returns-3 c = search tree-high
+returns-3 c = search (part-high treeNets)
 
 add-tree-nets : tie.Need-add-tree-nets
 add-tree-nets c = search needs
@@ -35,7 +36,7 @@ enum-told : tie.Need-enum-told
 enum-told c = search needs
 
 returns-4 : tie.Need-returns-4
-returns-4 c = search tree-bad
+returns-4 c = search (part-bad treeNets)
 
 add-nets-nodes : tie.Need-add-nets-nodes
 add-nets-nodes c = search needs
@@ -47,13 +48,13 @@ nets-nodes-requires : tie.Need-nets-nodes-requires
 nets-nodes-requires c κs = search needs
 
 returns-5 : tie.Need-returns-5
-returns-5 c = search tree-many
+returns-5 c = search (part-many treeNets)
 
 returns-6 : tie.Need-returns-6
-returns-6 c = search tree-all
+returns-6 c = search (part-all treeNets)
 
 returns-7 : tie.Need-returns-7
-returns-7 c = search tree-left
+returns-7 c = search (part-left treeNets)
 
 pub tree-part-spec : {M : Type 1} → statement M
 tree-part-spec =
