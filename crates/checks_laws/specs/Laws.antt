@@ -7,7 +7,7 @@ use mathlib.Core.Option.{some}
 use mathlib.Core.List.{List}
 use native.Mathlib.Omega.{arith}
 use lib.ListN.{length, getD, drop}
-use Rattle.words.specs.Choose.{pick}
+use Rattle.words.specs.Choose.{pick-and}
 use Rattle.net_file.specs.Lists.{any, distinct, eqs}
 use Rattle.net_file.specs.Read.{Parser}
 use Rattle.net_file.specs.Checks.{sameName, namesFree}
@@ -28,11 +28,6 @@ use Rattle.checks.specs.Checks.{namesDiffer, tablesDiffer, freeNamed}
 -- a place inside the file, and the place two bytes on
 inside : (s : List ℕ) (at : ℕ) → at + 2 ≤ length s → (within s at ≡ at) × (on s (within s at) 2 ≡ at + 2)
 inside s at h = let e : within s at ≡ at = omega arith in (e, rw e (omega arith))
-
-pick-and : (a b : Bool) → pick a b false ≡ (a && b)
-unfolding pick
-pick-and true b = refl
-pick-and false b = refl
 
 module _ {Net : Type 0} (readNet : ℕ → ℕ → Parser Net) (netAt : List ℕ → ℕ → Net) (netEnd : List ℕ → ℕ → ℕ) (s : List ℕ) (g : Reached readNet netAt netEnd s) where
   paths-differ : differ s 11 (be16 s 9) Path ≡ distinct eqs (pathsAt s)

@@ -1,16 +1,13 @@
 -- The count by offsets is the number of nodes of the nets that are read.
-use Prim.Native.Nat.{ℕ, zero, suc, _+_, _≤_, min}
-use mathlib.Core.Path.{_≡_, refl, sym, ap, _∙_}
-use mathlib.Core.List.{List, [], _∷_, map}
+use Prim.Native.Nat.{ℕ, zero, suc, _+_, _≤_}
+use mathlib.Core.Path.{_≡_, refl, sym}
+use mathlib.Core.List.{List, map}
 use native.Mathlib.Omega.{arith}
 use lib.ListN.{length, drop}
-use lib.Dec.{leb}
-use borrow.Author.Tests.{le-leb, lt-leb}
-use native.Mathlib.Decide.{decLt}
 use mathlib.Core.Option.{some}
 use Rattle.net_file.specs.Lists.{sum}
 use Rattle.net_file.specs.Values.{FlatNet}
-use Rattle.net_file.specs.Read.{times, readFlatNet, nodesFit}
+use Rattle.net_file.specs.Read.{times, readFlatNet}
 use Rattle.net_file.specs.Checks.{flat}
 use Rattle.fields.specs.Fields.{be16}
 use Rattle.stored.specs.Stored.{tableAt, tableEnd, nodeAt, nodeEnd, nodesAt, nodeCountAt, flatNetAt, flatNetEnd}
@@ -36,12 +33,7 @@ module _ (s : List ℕ) where
       rw (net-nodes at e, f, stored-nodes (flatNetEnd s at) n h)
 
 module _ (s : List ℕ) (paths names n at : ℕ) (ns : List FlatNet) (r : List ℕ) (i : at ≤ length s) (h : times n (readFlatNet paths names) (drop at s) ≡ some (ns, r)) where
-  -- the test on what `nets_nodes` answers is check 5's on the nodes of the file
-  pub nodes-fit : nodesFit (flat .nodes) ns ≡ leb (min 4097 (netsNodes s at n)) 4096
-  unfolding nodesFit
-  nodes-fit =
+  pub nets-nodes : netsNodes s at n ≡ sum (map (flat .nodes) ns)
+  nets-nodes =
       let y = stands-times s (readFlatNet paths names) (flatNetAt s) (flatNetEnd s) (stands-net s paths names) n at .by ns r i h in
-      rw (y .0, ← stored-nodes s at n (y .3)) (elim (decLt 4096 (netsNodes s at n)) [
-        | yes l ↦ lt-leb (netsNodes s at n) 4096 l ∙ sym (lt-leb (min 4097 (netsNodes s at n)) 4096 (omega arith))
-        | no l ↦ le-leb (netsNodes s at n) 4096 (omega arith) ∙ sym (le-leb (min 4097 (netsNodes s at n)) 4096 (omega arith))
-      ])
+      rw (y .0) (stored-nodes s at n (y .3))

@@ -24,6 +24,13 @@ module _ (s : List ℕ) where
   unfolding listEnd
   list-past at = omega arith
 
+  pub list-up : (at : ℕ) → at ≤ listEnd s at
+  list-up at = omega (arith, list-past at)
+
+  pub path-up : (at : ℕ) → at ≤ pathEnd s at
+  unfolding pathEnd
+  path-up at = omega arith
+
   pub name-past : (at : ℕ) → at + 10 < nameEnd s at
   unfolding nameEnd
   name-past at = list-past (at + 10)

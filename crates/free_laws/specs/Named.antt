@@ -15,13 +15,13 @@ use Rattle.net_file.specs.Read.{timesFrom, times, readPath, readTagged, readRul
 use Rattle.net_file.specs.Read
 use Rattle.fields.specs.Fields.{byte}
 use Rattle.stored.specs.Stored.{ruleAt, ruleEnd}
-use Rattle.stored.specs.Laws.{bound, stands-byte}
+use Rattle.stored.specs.Laws.{some-value, bound, stands-byte}
 use Rattle.stored.specs.Parts.{stands-rule}
 use Rattle.ends.specs.Ends.{on}
 use Rattle.free_path.specs.FreePath.{freeNumber}
 use Rattle.rule_names.specs.RuleNames.{ruleNames, ruleAfter, rulesName}
 use Rattle.free_laws.specs.Paths.{freeIndex, number-exact, paths-counted, index-free}
-use Rattle.free_laws.specs.Read.{some-first, Small, Ruled, tagged}
+use Rattle.free_laws.specs.Read.{Small, Ruled, tagged}
 use Rattle.free_laws.specs.Places.{tagged-after, tagged-names}
 
 -- a test of numbers that agrees with another below np, on a list of such numbers
@@ -68,14 +68,14 @@ module _ (s : List ℕ) (np at : ℕ) (rule : Rule) (q : List ℕ) (e : readRule
 rules-name : (s : List ℕ) (np x : ℕ) (f : ℕ → Bool) → ((p : ℕ) → p < np → eqb x p ≡ f p) → (n i at : ℕ) (rs : List Rule) (r : List ℕ)
     → timesFrom (λ j. readRule np) i n (drop at s) ≡ some (rs, r) → at ≤ length s → rulesName s at n x ≡ any (λ rule. any f (rulePaths rule)) rs
 unfolding timesFrom rulesName
-rules-name s np x f g zero i at rs r e h = rw (← some-first e)
+rules-name s np x f g zero i at rs r e h = rw (← some-value e .0)
 rules-name s np x f g (suc n) i at rs r e h =
     let w = bound (readRule np) _ (drop at s) rs r e in
     let v = bound (timesFrom (λ j. readRule np) (suc i) n) _ (w .rest) rs r (w .next) in
     let y = stood s np at (w .value) (w .rest) (w .first) h in
     let one = rule-names s np at (w .value) (w .rest) (w .first) h x ∙ any-below np (eqb x) f g (rulePaths (w .value)) (told s np at (w .value) (w .rest) (w .first) h .ruled .small) in
     let others = rules-name s np x f g n (suc i) (ruleEnd s at) (v .value) (v .rest) (ap (timesFrom (λ j. readRule np) (suc i) n) (sym (y .1)) ∙ v .first) (y .3) in
-    rw (← some-first (v .next), rule-after s np at (w .value) (w .rest) (w .first) h) (λ j. one j || others j)
+    rw (← some-value (v .next) .0, rule-after s np at (w .value) (w .rest) (w .first) h) (λ j. one j || others j)
 
 -- the free number is named exactly if the free path is
 pub free-named : (s : List ℕ) (from np : ℕ) (ps : List (List ℕ)) (r : List ℕ) → times np readPath (drop from s) ≡ some (ps, r) → from ≤ length s

@@ -12,18 +12,14 @@ use borrow.Author.Tests.{eqb-true, not-true}
 use Rattle.words.specs.Choose.{pick}
 use Rattle.net_file.specs.Lists.{bit, any, count, distinct, eqs}
 use Rattle.net_file.specs.Values.{freePath}
+use Rattle.list_laws.specs.Tests.{both}
+use Rattle.list_laws.specs.Lists.{eqs-true}
 use Rattle.net_file.specs.Read.{times, readPath}
 use Rattle.stored.specs.Stored.{tableAt, tableEnd, pathAt, pathEnd}
 use Rattle.stored.specs.Laws.{stands-times, table-length}
 use Rattle.stored.specs.Parts.{stands-path}
-use Rattle.ends.specs.Ends.{within}
+use Rattle.ends.specs.Ends.{within, path-up, table-up}
 use Rattle.free_path.specs.FreePath.{other, others, freeNumber}
-
--- a table ends no earlier than it begins
-pub table-up : (end : ℕ → ℕ) → ((at : ℕ) → at ≤ end at) → (at n : ℕ) → at ≤ tableEnd end at n
-unfolding tableEnd
-table-up end h at zero = omega arith
-table-up end h at (suc n) = omega (arith, h at, table-up end h (end at) n)
 
 -- the number of the first free path, or how many there are
 unfoldable pub freeIndex : List (List ℕ) → ℕ
@@ -33,12 +29,8 @@ freeIndex (p ∷ ps) = pick (eqs freePath p) 0 (suc (freeIndex ps))
 -- ---- where the whole table is there, no place is moved to the end
 
 module _ (s : List ℕ) where
-  path-up : (at : ℕ) → at ≤ pathEnd s at
-  unfolding pathEnd
-  path-up at = omega arith
-
   path-in : (at n : ℕ) → tableEnd (pathEnd s) (pathEnd s at) n ≤ length s → within s (pathEnd s at) ≡ pathEnd s at
-  path-in at n h = omega (arith, table-up (pathEnd s) path-up (pathEnd s at) n)
+  path-in at n h = omega (arith, table-up (pathEnd s) (path-up s) (pathEnd s at) n)
 
   others-table : (n at : ℕ) → tableEnd (pathEnd s) at n ≤ length s → others s at n ≡ count (λ p. not (eqs freePath p)) (tableAt (pathAt s) (pathEnd s) at n)
   unfolding others other tableAt tableEnd
@@ -67,18 +59,6 @@ module _ (s : List ℕ) (at n : ℕ) (ps : List (List ℕ)) (r : List ℕ) (e : 
   paths-counted = rw (paths-are .0) (table-length s (pathAt s) (pathEnd s) at n)
 
 -- ---- among different paths the free one has one number
-
-both : (a b : Bool) → (a && b) ≡ true → (a ≡ true) × (b ≡ true)
-both true b e = (refl, e)
-both false b e = let z : _≡_ {A = ℕ} 0 1 = cc in absurd (omega arith)
-
-eqs-true : (xs ys : List ℕ) → eqs xs ys ≡ true → xs ≡ ys
-eqs-true [] [] e = refl
-eqs-true [] (y ∷ ys) e = let z : _≡_ {A = ℕ} 0 1 = cc in absurd (omega arith)
-eqs-true (x ∷ xs) [] e = let z : _≡_ {A = ℕ} 0 1 = cc in absurd (omega arith)
-eqs-true (x ∷ xs) (y ∷ ys) e =
-    let h = both (eqb x y) (eqs xs ys) e in
-    rw (eqb-true x y (h .0), eqs-true xs ys (h .1))
 
 -- a test that none passes, at each place
 none-at : (f : List ℕ → Bool) (ys : List (List ℕ)) (p : ℕ) → any f ys ≡ false → p < length ys → f (getD ys p []) ≡ false

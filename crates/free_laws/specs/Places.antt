@@ -8,26 +8,18 @@ use lib.ListN.{length}
 use lib.Dec.{eqb}
 use Rattle.words.specs.Choose.{pick, if-eq, if-lt}
 use Rattle.net_file.specs.Lists.{any}
+use Rattle.list_laws.specs.Lists.{any-append}
 use Rattle.net_file.specs.Checks.{rulePaths}
 use Rattle.fields.specs.Fields.{byte}
 use Rattle.stored.specs.Stored.{tableAt, tableEnd, numbersAt, listAt, listEnd, ruleOf, ruleOfEnd}
-use Rattle.ends.specs.Ends.{within, on}
+use Rattle.ends.specs.Ends.{within, on, list-up, table-up}
 use Rattle.rule_names.specs.RuleNames.{listsOf, listHas, listsHave, listsAfter, taggedNames, taggedAfter}
-use Rattle.rule_names.specs.Steps.{run-all}
-use Rattle.free_laws.specs.Paths.{table-up}
-
-pub any-append : {A : Type 0} (f : A → Bool) (xs ys : List A) → any f (xs ++ ys) ≡ (any f xs || any f ys)
-any-append f [] ys = refl
-any-append f (x ∷ xs) ys = ap (λ t. f x || t) (any-append f xs ys) ∙ sym (or-assoc (f x) (any f xs) (any f ys))
+use Rattle.ends.specs.Runs.{run-all}
 
 module _ (s : List ℕ) where
-  list-up : (at : ℕ) → at ≤ listEnd s at
-  unfolding listEnd
-  list-up at = omega arith
-
   module _ (at n : ℕ) (h : tableEnd (listEnd s) (listEnd s at) n ≤ length s) where
     list-in : listEnd s at ≤ length s
-    list-in = omega (arith, table-up (listEnd s) list-up (listEnd s at) n)
+    list-in = omega (arith, table-up (listEnd s) (list-up s) (listEnd s at) n)
 
     list-within : within s (listEnd s at) ≡ listEnd s at
     list-within = omega (arith, list-in)

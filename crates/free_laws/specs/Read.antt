@@ -1,53 +1,35 @@
 -- What the reader of a rule makes sure of: its tag is 1 to 5, and every path that it names is below the number of paths.
 use Prim.Native.Nat.{ℕ, zero, suc, _<_}
-use mathlib.Core.Path.{_≡_, refl, ap}
-use mathlib.Core.Bool.{Bool, true, false, _&&_}
-use mathlib.Core.Option.{Option, none, some}
+use mathlib.Core.Path.{_≡_, refl, ap, _∙_}
+use mathlib.Core.Bool.{Bool, true, false}
+use mathlib.Core.Option.{some}
 use mathlib.Core.List.{List, [], _∷_, _++_}
 use native.Mathlib.Omega.{arith}
 use lib.Dec.{ltb}
+use borrow.Author.Tests.{lt-ltb}
 use Rattle.net_file.specs.Lists.{all}
 use Rattle.net_file.specs.Values.{Rule}
+use Rattle.list_laws.specs.Tests.{both-are}
+use Rattle.list_laws.specs.Lists.{all-append}
 use Rattle.net_file.specs.Checks.{rulePaths}
-use Rattle.net_file.specs.Read.{such, number, below, timesFrom, times, many, readBit, readList, readTagged}
-use Rattle.stored.specs.Laws.{bound}
-
-pub some-first : {A : Type 0} {x y : A} {q r : List ℕ} → _≡_ {A = Option (A × List ℕ)} (some (x, q)) (some (y, r)) → x ≡ y
-some-first {A} {x} e = ap (λ o. first o) e
-  where
-    first : Option (A × List ℕ) → A
-    first none = x
-    first (some p) = p .0
-
-all-append : {A : Type 0} (f : A → Bool) (xs ys : List A) → all f xs ≡ true → all f ys ≡ true → all f (xs ++ ys) ≡ true
-all-append f [] ys g h = h
-all-append f (x ∷ xs) ys g h = go (f x) g (λ e. all-append f xs ys e h)
-  where
-    go : (t : Bool) → (t && all f xs) ≡ true → (all f xs ≡ true → all f (xs ++ ys) ≡ true) → (t && all f (xs ++ ys)) ≡ true
-    go true e k = k e
-    go false e k = e
+use Rattle.net_file.specs.Read.{below, timesFrom, times, many, readBit, readList, readTagged}
+use Rattle.stored.specs.Laws.{some-value, bound}
+use Rattle.stored.specs.Pass.{under}
 
 module _ (np : ℕ) where
   abbrev pub Small : List ℕ → Type 0
   Small l = all (λ p. ltb p np) l ≡ true
 
   below-small : (k : ℕ) (bs : List ℕ) (x : ℕ) (r : List ℕ) → below k np bs ≡ some (x, r) → ltb x np ≡ true
-  unfolding below
-  below-small k bs x r e =
-      let w = bound (number k) (λ y. such (ltb y np) y) bs x r e in
-      go (w .value) (w .rest) (ltb (w .value) np) refl (w .next)
-    where
-      go : (v : ℕ) (q : List ℕ) (t : Bool) → ltb v np ≡ t → such t v q ≡ some (x, r) → ltb x np ≡ true
-      go v q true h g = rw (some-first g) at h
-      go v q false h g = let z : _≡_ {A = ℕ} 0 1 = cc in absurd (omega arith)
+  below-small k bs x r e = lt-ltb x np (under k np x bs r e)
 
   numbers-small : (n i : ℕ) (bs l r : List ℕ) → timesFrom (λ j. below 2 np) i n bs ≡ some (l, r) → Small l
   unfolding timesFrom
-  numbers-small zero i bs l r e = rw (← some-first e)
+  numbers-small zero i bs l r e = rw (← some-value e .0)
   numbers-small (suc n) i bs l r e =
       let w = bound (below 2 np) _ bs l r e in
       let v = bound (timesFrom (λ j. below 2 np) (suc i) n) _ (w .rest) l r (w .next) in
-      rw (← some-first (v .next), below-small 2 bs (w .value) (w .rest) (w .first)) (numbers-small n (suc i) (w .rest) (v .value) (v .rest) (v .first))
+      rw (← some-value (v .next) .0, below-small 2 bs (w .value) (w .rest) (w .first)) (numbers-small n (suc i) (w .rest) (v .value) (v .rest) (v .first))
 
   list-small : (bs l r : List ℕ) → readList np bs ≡ some (l, r) → Small l
   unfolding readList many times
@@ -57,7 +39,7 @@ module _ (np : ℕ) where
 
   -- one list, and another after it
   lists-small : (l bs m r : List ℕ) → Small l → readList np bs ≡ some (m, r) → Small (l ++ m)
-  lists-small l bs m r h e = all-append (λ p. ltb p np) l m h (list-small bs m r e)
+  lists-small l bs m r h e = all-append (λ p. ltb p np) l m ∙ both-are _ _ h (list-small bs m r e)
 
 -- the tag of a rule that was read, and the paths that it names
 pub record Ruled (np tag : ℕ) (rule : Rule) : Type 0 where
@@ -71,24 +53,24 @@ tagged np zero bs rule r e = let z : _≡_ {A = ℕ} 0 1 = cc in absurd (omega a
 tagged np (suc zero) bs rule r e =
     let w = bound (below 2 np) _ bs rule r e in
     let v = bound readBit _ (w .rest) rule r (w .next) in
-    rw (← some-first (v .next)) (record { least = omega arith; most = omega arith; small = rw (below-small np 2 bs (w .value) (w .rest) (w .first)) })
+    rw (← some-value (v .next) .0) (record { least = omega arith; most = omega arith; small = rw (below-small np 2 bs (w .value) (w .rest) (w .first)) })
 tagged np (suc (suc zero)) bs rule r e =
     let w = bound (readList np) _ bs rule r e in
-    rw (← some-first (w .next)) (record { least = omega arith; most = omega arith; small = list-small np bs (w .value) (w .rest) (w .first) })
+    rw (← some-value (w .next) .0) (record { least = omega arith; most = omega arith; small = list-small np bs (w .value) (w .rest) (w .first) })
 tagged np (suc (suc (suc zero))) bs rule r e =
     let w = bound (readList np) _ bs rule r e in
     let v = bound (readList np) _ (w .rest) rule r (w .next) in
     let h = list-small np bs (w .value) (w .rest) (w .first) in
-    rw (← some-first (v .next)) (record { least = omega arith; most = omega arith; small = lists-small np (w .value) (w .rest) (v .value) (v .rest) h (v .first) })
+    rw (← some-value (v .next) .0) (record { least = omega arith; most = omega arith; small = lists-small np (w .value) (w .rest) (v .value) (v .rest) h (v .first) })
 tagged np (suc (suc (suc (suc zero)))) bs rule r e =
     let w = bound (readList np) _ bs rule r e in
     let v = bound (readList np) _ (w .rest) rule r (w .next) in
     let h = list-small np bs (w .value) (w .rest) (w .first) in
-    rw (← some-first (v .next)) (record { least = omega arith; most = omega arith; small = lists-small np (w .value) (w .rest) (v .value) (v .rest) h (v .first) })
+    rw (← some-value (v .next) .0) (record { least = omega arith; most = omega arith; small = lists-small np (w .value) (w .rest) (v .value) (v .rest) h (v .first) })
 tagged np (suc (suc (suc (suc (suc zero))))) bs rule r e =
     let w = bound (readList np) _ bs rule r e in
     let v = bound (readList np) _ (w .rest) rule r (w .next) in
     let u = bound (readList np) _ (v .rest) rule r (v .next) in
     let h = lists-small np (w .value) (w .rest) (v .value) (v .rest) (list-small np bs (w .value) (w .rest) (w .first)) (v .first) in
-    rw (← some-first (u .next)) (record { least = omega arith; most = omega arith; small = lists-small np (w .value ++ v .value) (v .rest) (u .value) (u .rest) h (u .first) })
+    rw (← some-value (u .next) .0) (record { least = omega arith; most = omega arith; small = lists-small np (w .value ++ v .value) (v .rest) (u .value) (u .rest) h (u .first) })
 tagged np (suc (suc (suc (suc (suc (suc n)))))) bs rule r e = let z : _≡_ {A = ℕ} 0 1 = cc in absurd (omega arith)

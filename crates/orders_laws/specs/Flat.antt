@@ -14,16 +14,12 @@ use Rattle.stored.specs.Stored.{pairAt, pairsAt, pairCountAt, flatNetAt, tableA
 use Rattle.stored.specs.Laws.{bound, stands-as, stands-2, stands-4, stands-below, stands-many, stands-numbers, table-steps}
 use Rattle.stored.specs.Parts.{stands-bit, stands-pair}
 use Rattle.ends.specs.Ends.{within, on}
-use Rattle.tally.specs.Tally.{Inside}
+use Rattle.tally.specs.Tally.{Inside, inside-more}
 use Rattle.wiring.specs.Wiring.{pairRun, netPairs}
 use Rattle.walk.specs.Loops.{times-suc}
 use Rattle.stored.specs.Pass.{pass, under}
 
 -- ---- every wire is below the wire counter
-
-inside-up : (m n : ℕ) → m ≤ n → (ws : List ℕ) → Inside m ws → Inside n ws
-inside-up m n h [] i = i
-inside-up m n h (w ∷ ws) i = let g = i .0 in (omega arith, inside-up m n h ws (i .1))
 
 module _ (s : List ℕ) (wires : ℕ) where
   pair-inside : (at : ℕ) (p : ℕ × ℕ) (r : List ℕ) → at ≤ length s → readPair wires (drop at s) ≡ some (p, r) → (be16 s at < wires) × (be16 s (at + 2) < wires)
@@ -81,5 +77,5 @@ module _ (s : List ℕ) (at : ℕ) where
       let u = under 4 65537 w (drop (at + 3) s) _ (c .first) in
       record {
         pairs = pairs-stand (be16 s m) refl (p .inside);
-        inside = inside-up w 65536 (omega arith) (pairWires (pairsAt s (m + 2) (be16 s m))) (counted-inside s w m _ _ (d .inside) (p .first));
+        inside = inside-more w 65536 (omega arith) (pairWires (pairsAt s (m + 2) (be16 s m))) (counted-inside s w m _ _ (d .inside) (p .first));
       }

@@ -17,13 +17,13 @@ use Rattle.stored.specs.Stored.{tableAt, flatNetAt, flatNetEnd}
 use Rattle.stored.specs.Laws.{bound, stands-times}
 use Rattle.stored.specs.Parts.{stands-net}
 use Rattle.ends.specs.Ends.{within}
-use Rattle.tally.specs.Tally.{bump, Low, bump-length}
+use Rattle.tally.specs.Tally.{bump, Low, blank-low, bump-length, bump-low}
 use Rattle.wiring.specs.Wiring.{netPairs}
 use Rattle.walk.specs.Loops.{times-suc}
 use Rattle.stored.specs.Pass.{pass}
 use Rattle.orders.specs.Orders.{pairsFrom, nameFits, netOrdered, netsFrom, netsOrdered}
 use Rattle.orders_laws.specs.Ascend.{ascendFrom, ascends}
-use Rattle.orders_laws.specs.Pairs.{bump-low, pairs-keep, pairs-ordered}
+use Rattle.orders_laws.specs.Pairs.{pairs-keep, pairs-ordered}
 use Rattle.orders_laws.specs.Flat.{FlatRead, flat-read}
 
 -- ---- one net
@@ -79,17 +79,12 @@ module _ (s : List ℕ) (paths names : ℕ) where
       rw (t, q, net-ordered s counts base last at f e l)
       (join (leb last (be16 s at)) (pairsOrdered (flatNetAt s at .pairs)) (ascendFrom (be16 s at + 1) (map (λ x. x .name) xs)) (all (λ x. pairsOrdered (x .pairs)) xs))
 
-zeros : (n v : ℕ) → getD (replicate n 0) v 0 ≤ 0
-zeros zero v = omega arith
-zeros (suc n) zero = omega arith
-zeros (suc n) (suc v) = zeros n v
-
 module _ (s : List ℕ) (paths names n at : ℕ) (ns : List FlatNet) (r : List ℕ) where
   pub nets-ordered : times n (readFlatNet paths names) (drop at s) ≡ some (ns, r) → at ≤ length s → n ≤ 256
       → netsOrdered s at n ≡ (ascend (map (λ x. x .name) ns) && all (λ x. pairsOrdered (x .pairs)) ns)
   unfolding netsOrdered
   nets-ordered h i l =
       sym (lt-no _ _ _ _ l refl)
-      ∙ stored-ordered s paths names n at 0 0 (replicate 65536 0) ns r i h (length-replicate {A = ℕ} 65536 0) (zeros 65536)
+      ∙ stored-ordered s paths names n at 0 0 (replicate 65536 0) ns r i h (length-replicate {A = ℕ} 65536 0) (blank-low 65536)
       ∙ rw (stands-times s (readFlatNet paths names) (flatNetAt s) (flatNetEnd s) (stands-net s paths names) n at .by ns r i h .0)
       (ap (λ t. t && all (λ x. pairsOrdered (x .pairs)) (tableAt (flatNetAt s) (flatNetEnd s) at n)) (ascends _))

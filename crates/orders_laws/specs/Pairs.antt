@@ -11,7 +11,7 @@ use borrow.Author.Tests.{eq-eqb, ne-eqb, lt-ltb, le-ltb, ltb-true}
 use Rattle.words.specs.Choose.{pick, if-lt}
 use Rattle.net_file.specs.Lists.{all, bit}
 use Rattle.net_file.specs.Checks.{occurs, pairWires, pairsOrdered}
-use Rattle.tally.specs.Tally.{bump, tally, seen, Low, Inside, bump-length, tally-low, tally-seen}
+use Rattle.tally.specs.Tally.{bump, tally, seen, Low, Inside, bump-length, bump-low, tally-seen}
 use Rattle.repeats_laws.specs.Fresh.{fresh, fresh-distinct}
 use Rattle.orders.specs.Orders.{marked, pairFits, pairStep, pairsFrom}
 use Rattle.orders_laws.specs.Ascend.{ascendFrom, ascends, not-below}
@@ -19,10 +19,6 @@ use Rattle.orders_laws.specs.Ascend.{ascendFrom, ascends, not-below}
 -- ---- one wire more
 
 module _ (counts : List ℕ) (base w : ℕ) where
-  pub bump-low : Low counts (base + 3) → Low (bump counts base w) (base + 3)
-  unfolding tally
-  bump-low l = tally-low counts base (w ∷ []) l
-
   bump-marked : w < length counts → Low counts (base + 3) → (v : ℕ) → marked (bump counts base w) base v ≡ (eqb w v || marked counts base v)
   unfolding marked tally seen occurs
   bump-marked h l v =

@@ -6,7 +6,7 @@ use mathlib.Core.Option.{some}
 use mathlib.Core.List.{List, _∷_, map}
 use lib.ListN.{length, drop}
 use lib.Dec.{leb}
-use Rattle.words.specs.Choose.{pick}
+use Rattle.words.specs.Choose.{pick-and}
 use Rattle.net_file.specs.Lists.{ascend}
 use Rattle.net_file.specs.Values.{TreeNet}
 use Rattle.net_file.specs.Read.{_>>=_, give, times, readTreeNet}
@@ -22,11 +22,6 @@ use Rattle.orders.specs.Orders.{nameFits}
 use Rattle.orders_tree.specs.Names.{namesFrom}
 use Rattle.orders_laws.specs.Ascend.{ascendFrom, ascends}
 
-both : (t u : Bool) → pick t u false ≡ (t && u)
-unfolding pick
-both true u = refl
-both false u = refl
-
 module _ (s : List ℕ) (paths names : ℕ) where
   stored-ascend : (n at last : ℕ) (ns : List TreeNet) (r : List ℕ) → at ≤ length s → times n (readTreeNet paths names) (drop at s) ≡ some (ns, r)
       → namesFrom last s at n ≡ ascendFrom last (map (λ x. x .name) (tableAt (treeNetAt s) (treeNetEnd s) at n))
@@ -38,7 +33,7 @@ module _ (s : List ℕ) (paths names : ℕ) where
       let b = pass (λ x. times n aNet >>= λ xs. give (x ∷ xs)) ns r (stands-tree-net s paths names at) i g in
       let c = bound (times n aNet) (λ xs. give (treeNetAt s at ∷ xs)) (drop (treeNetEnd s at) s) ns r (b .next) in
       rw (net-end s paths names at (treeNetAt s at) _ i (b .first), stored-ascend n (treeNetEnd s at) (be16 s at + 1) (c .value) (c .rest) (b .inside) (c .first))
-      (both (leb last (be16 s at)) (ascendFrom (be16 s at + 1) (map (λ x. x .name) (tableAt (treeNetAt s) (treeNetEnd s) (treeNetEnd s at) n))))
+      (pick-and (leb last (be16 s at)) (ascendFrom (be16 s at + 1) (map (λ x. x .name) (tableAt (treeNetAt s) (treeNetEnd s) (treeNetEnd s at) n))))
 
   pub names-ascend : (n at : ℕ) (ns : List TreeNet) (r : List ℕ) → times n (readTreeNet paths names) (drop at s) ≡ some (ns, r) → at ≤ length s
       → namesFrom 0 s at n ≡ ascend (map (λ x. x .name) ns)

@@ -9,7 +9,7 @@ use native.Mathlib.Nat.{not-suc-le-zero}
 use lib.ListN.{length}
 use Rattle.fields.specs.Fields.{byte, be16, be32, be64, byte-past, be16-past, be32-past, be64-past}
 use Rattle.stored.specs.Stored.{tableEnd, listEnd, pathEnd, nameEnd, ruleOfEnd, ruleEnd, nodeEnd, nodeCountAt, flatNetEnd, nameCountAt, ruleCountAt, netCountAt}
-use Rattle.ends.specs.Ends.{within, on, list-past, name-past, node-up, net-up, table-up}
+use Rattle.ends.specs.Ends.{within, on, list-up, path-up, name-past, node-up, net-up, table-up}
 use Rattle.readers.specs.declared.Part.{Part}
 use Rattle.readers.specs.declared.Part.the-variants.{Path, Name, Rule, Net, Node, PathList}
 use Rattle.readers.specs.Readers.{partEnd}
@@ -52,13 +52,6 @@ module _ (s : List ℕ) (x a : ℕ) where
 -- ---- each part ends no earlier than it begins
 
 module _ (s : List ℕ) where
-  path-up : (at : ℕ) → at ≤ pathEnd s at
-  unfolding pathEnd
-  path-up at = omega arith
-
-  list-up : (at : ℕ) → at ≤ listEnd s at
-  list-up at = omega (arith, list-past s at)
-
   name-up : (at : ℕ) → at ≤ nameEnd s at
   name-up at = omega (arith, name-past s at)
 
@@ -66,10 +59,10 @@ module _ (s : List ℕ) where
   unfolding ruleOfEnd
   rule-of-up zero at = omega arith
   rule-of-up (suc zero) at = omega arith
-  rule-of-up (suc (suc zero)) at = list-up at
-  rule-of-up (suc (suc (suc zero))) at = omega (arith, list-up at, list-up (listEnd s at))
-  rule-of-up (suc (suc (suc (suc zero)))) at = omega (arith, list-up at, list-up (listEnd s at))
-  rule-of-up (suc (suc (suc (suc (suc n))))) at = omega (arith, list-up at, list-up (listEnd s at), list-up (listEnd s (listEnd s at)))
+  rule-of-up (suc (suc zero)) at = list-up s at
+  rule-of-up (suc (suc (suc zero))) at = omega (arith, list-up s at, list-up s (listEnd s at))
+  rule-of-up (suc (suc (suc (suc zero)))) at = omega (arith, list-up s at, list-up s (listEnd s at))
+  rule-of-up (suc (suc (suc (suc (suc n))))) at = omega (arith, list-up s at, list-up s (listEnd s at), list-up s (listEnd s (listEnd s at)))
 
   rule-up : (at : ℕ) → at ≤ ruleEnd s at
   unfolding ruleEnd
@@ -77,12 +70,12 @@ module _ (s : List ℕ) where
 
   pub part-up : (p : Part) (at : ℕ) → at ≤ partEnd s p at
   unfolding partEnd
-  part-up Path = path-up
+  part-up Path = path-up s
   part-up Name = name-up
   part-up Rule = rule-up
   part-up Net = net-up s
   part-up Node = node-up s
-  part-up PathList = list-up
+  part-up PathList = list-up s
 
 -- ---- tables
 

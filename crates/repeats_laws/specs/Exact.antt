@@ -10,6 +10,8 @@ use native.Mathlib.Numerals.{add-one}
 use lib.ListN.{length, getD, replicate, length-replicate}
 use Rattle.words.specs.Choose.{lt-no, pick-true, pick-false}
 use Rattle.net_file.specs.Lists.{distinct, eqs}
+use Rattle.list_laws.specs.Tests.{either}
+use Rattle.list_laws.specs.Lists.{eqs-true, eqs-eq}
 use Rattle.stored.specs.Stored.{tableAt, tableEnd}
 use Rattle.repeats.specs.declared.Item.{Item}
 use Rattle.repeats.specs.Repeats.{size-of, search, insert, differ-in, differ}
@@ -18,7 +20,7 @@ use Rattle.repeats_laws.specs.Arrays.{length-insert, insert-low, insert-
 use Rattle.repeats_laws.specs.Find.{Ascends, Found, Missing, looked}
 use Rattle.repeats_laws.specs.Fresh.{fresh, fresh-distinct}
 use Rattle.repeats_laws.specs.Grow.{Entry, low, new, high, entry, grown}
-use Rattle.repeats_laws.specs.Items.{eqs-true, eqs-eq, itemAt, itemEnd, after-end, items, item-same, item-alike}
+use Rattle.repeats_laws.specs.Items.{itemAt, itemEnd, after-end, items, item-same, item-alike}
 
 -- the first m entries of l are the places of the items seen, in ascending order, all before `at`
 pub record Holds (s : List ℕ) (item : Item) (l : List ℕ) (m at : ℕ) (seen : List ℕ → Bool) : Type 0 where
@@ -30,10 +32,6 @@ pub record Holds (s : List ℕ) (item : Item) (l : List ℕ) (m at : ℕ) (seen 
 not-true : (t : Bool) → (t ≡ true → ⊥) → t ≡ false
 not-true true h = absurd (h refl)
 not-true false h = refl
-
-either : (a b : Bool) → (a || b) ≡ true → (a ≡ true) ⊎ (b ≡ true)
-either true b e = inl refl
-either false b e = inr e
 
 -- ---- one item more
 

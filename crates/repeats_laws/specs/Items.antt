@@ -17,27 +17,6 @@ use Rattle.repeats.specs.declared.Item.the-variants.{Path, Name}
 use Rattle.repeats.specs.Repeats.{size-of}
 use Rattle.repeats_laws.specs.Runs.{Alike, alike-at, length-bytes, bytes-alike, alike-bytes}
 
--- ---- equality of lists, as a test
-
-pub both : (a b : Bool) → (a && b) ≡ true → (a ≡ true) × (b ≡ true)
-both true b e = (refl, e)
-both false b e = let z : _≡_ {A = ℕ} 0 1 = cc in absurd (omega arith)
-
-pub eqs-true : (xs ys : List ℕ) → eqs xs ys ≡ true → xs ≡ ys
-eqs-true [] [] e = refl
-eqs-true [] (y ∷ ys) e = let z : _≡_ {A = ℕ} 0 1 = cc in absurd (omega arith)
-eqs-true (x ∷ xs) [] e = let z : _≡_ {A = ℕ} 0 1 = cc in absurd (omega arith)
-eqs-true (x ∷ xs) (y ∷ ys) e =
-    let h = both (eqb x y) (eqs xs ys) e in
-    rw (eqb-true x y (h .0), eqs-true xs ys (h .1))
-
-eqs-self : (xs : List ℕ) → eqs xs xs ≡ true
-eqs-self [] = refl
-eqs-self (x ∷ xs) = rw (eq-eqb x x refl, eqs-self xs)
-
-pub eqs-eq : (xs ys : List ℕ) → xs ≡ ys → eqs xs ys ≡ true
-eqs-eq xs ys e = rw e (eqs-self ys)
-
 -- ---- the items
 
 module _ (s : List ℕ) (item : Item) where

@@ -8,6 +8,8 @@ use native.Mathlib.Nat.{add-zero}
 use lib.ListN.{length, getD, drop}
 use borrow.Author.Tests.{eqb-true, eq-eqb}
 use Rattle.net_file.specs.Lists.{distinct, eqs}
+use Rattle.list_laws.specs.Tests.{both, same-test}
+use Rattle.list_laws.specs.Lists.{eqs-true, eqs-eq}
 use Rattle.net_file.specs.Values.{Name}
 use Rattle.net_file.specs.Read.{timesFrom, readName}
 use Rattle.net_file.specs.Checks.{sameName}
@@ -18,9 +20,9 @@ use Rattle.stored.specs.Parts.{stands-name}
 use Rattle.repeats.specs.declared.Item.the-variants.{Name as Named}
 use Rattle.repeats.specs.Repeats.{size-of, differ}
 use Rattle.repeats_laws.specs.Runs.{Alike, none, more, alike-at}
-use Rattle.repeats_laws.specs.Items.{both, eqs-true, eqs-eq, itemAt, itemEnd, items, item-same, item-alike}
+use Rattle.repeats_laws.specs.Items.{itemAt, itemEnd, items, item-same, item-alike}
 use Rattle.repeats_laws.specs.Exact.{differ-exact}
-use Rattle.repeats_laws.specs.Paths.{distinct-table, same-test}
+use Rattle.repeats_laws.specs.Paths.{distinct-table}
 use Rattle.repeats_laws.specs.Numbers.{alike-part, alike-join, be16-alike, be64-alike, numbers-alike, length-numbers, alike-be16, alike-be64, alike-numbers}
 
 module _ (s : List ℕ) where

@@ -7,6 +7,8 @@ use mathlib.Core.List.{List}
 use native.Mathlib.Omega.{arith}
 use lib.ListN.{length, drop}
 use Rattle.net_file.specs.Lists.{any, distinct, eqs}
+use Rattle.list_laws.specs.Tests.{same-test}
+use Rattle.list_laws.specs.Lists.{eqs-true, eqs-eq}
 use Rattle.net_file.specs.Read.{times, readPath}
 use Rattle.fields.specs.Fields.{byte}
 use Rattle.stored.specs.Stored.{tableAt, bytesAt, pathAt, pathEnd}
@@ -15,7 +17,7 @@ use Rattle.stored.specs.Parts.{stands-path}
 use Rattle.repeats.specs.declared.Item.the-variants.{Path}
 use Rattle.repeats.specs.Repeats.{size-of, differ}
 use Rattle.repeats_laws.specs.Runs.{Alike, more, length-bytes, bytes-alike, alike-bytes}
-use Rattle.repeats_laws.specs.Items.{eqs-true, eqs-eq, itemAt, itemEnd, items, item-same, item-alike}
+use Rattle.repeats_laws.specs.Items.{itemAt, itemEnd, items, item-same, item-alike}
 use Rattle.repeats_laws.specs.Exact.{differ-exact}
 
 -- ---- tables of the same places
@@ -31,12 +33,6 @@ module _ {A B : Type 0} (same : A → A → Bool) (alike : B → B → Bool) (on
   unfolding tableAt
   distinct-table zero at = refl
   distinct-table (suc n) at = rw (any-table n at (end at), distinct-table n (end at))
-
--- two tests that hold in the same cases
-pub same-test : (t u : Bool) → (t ≡ true → u ≡ true) → (u ≡ true → t ≡ true) → t ≡ u
-same-test true u f g = sym (f refl)
-same-test false true f g = g refl
-same-test false false f g = refl
 
 -- ---- paths
 

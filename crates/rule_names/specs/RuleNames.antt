@@ -1,26 +1,22 @@
 -- Whether a rule names the path of number x, by offsets. What it means on a file that is read is in `free_laws`.
-use Prim.Native.Nat.{ℕ, zero, suc, _+_, _*_}
+use Prim.Native.Nat.{ℕ, zero, suc}
 use mathlib.Core.Bool.{Bool, false, _||_}
-use mathlib.Core.List.{List, []}
-use lib.ListN.{length}
+use mathlib.Core.List.{List}
 use lib.Dec.{eqb}
 use Rattle.words.specs.Choose.{if-eq, if-lt}
 use Rattle.net_file.specs.Lists.{any}
 use Rattle.fields.specs.Fields.{byte}
-use Rattle.stored.specs.Stored.{numbersAt, listEnd}
+use Rattle.stored.specs.Stored.{listEnd}
 use Rattle.ends.specs.Ends.{within, on}
+use Rattle.ends.specs.Runs.{run}
 
 -- how many lists follow a rule's tag: 1 for tag 2, 2 for tags 3 and 4, 3 for tag 5
 unfoldable pub listsOf : ℕ → ℕ
 listsOf tag = if-lt tag 2 0 (if-eq tag 2 1 (if-lt tag 5 2 (if-eq tag 5 3 0)))
 
 module _ (s : List ℕ) where
-  -- n numbers that stand one after another, where all are there
-  unfoldable pub run : ℕ → ℕ → List ℕ
-  run from n = if-lt (length s) (from + 2 * n) [] (numbersAt s from n)
-
   unfoldable pub listHas : ℕ → ℕ → Bool
-  listHas at x = any (eqb x) (run (on s at 1) (byte s at))
+  listHas at x = any (eqb x) (run s (on s at 1) (byte s at))
 
   -- n lists, one after another, and the place after them
   unfoldable pub listsHave : ℕ → ℕ → ℕ → Bool
@@ -33,7 +29,7 @@ module _ (s : List ℕ) where
 
   -- what follows a rule's tag: a graft's path and its bit, or lists
   unfoldable pub taggedNames : ℕ → ℕ → ℕ → Bool
-  taggedNames tag at x = if-eq tag 1 (any (eqb x) (run at 1)) (listsHave at (listsOf tag) x)
+  taggedNames tag at x = if-eq tag 1 (any (eqb x) (run s at 1)) (listsHave at (listsOf tag) x)
 
   unfoldable pub taggedAfter : ℕ → ℕ → ℕ
   taggedAfter tag at = if-eq tag 1 (on s at 3) (listsAfter at (listsOf tag))

@@ -9,33 +9,24 @@ use native.Mathlib.Nat.{not-suc-le-zero}
 use lib.ListN.{length}
 use lib.Dec.{eqb}
 use borrow.Author.Tests.{eq-eqb, ne-eqb}
-use Rattle.words.specs.Choose.{lt-yes, lt-no}
 use Rattle.net_file.specs.Lists.{any}
 use Rattle.fields.specs.Fields.{be16}
 use Rattle.stored.specs.Stored.{tableAt, numbersAt, listEnd}
 use Rattle.ends.specs.Ends.{within}
-use Rattle.rule_names.specs.RuleNames.{run, listHas, listsHave, listsAfter, ruleNames, ruleAfter, rulesName}
+use Rattle.ends.specs.Runs.{run, run-none, run-all}
+use Rattle.rule_names.specs.RuleNames.{listHas, listsHave, listsAfter, ruleNames, ruleAfter, rulesName}
 
 -- ---- numbers
 
-module _ (s : List ℕ) (from n : ℕ) where
-  run-none : length s < from + 2 * n → run s from n ≡ []
-  unfolding run
-  run-none h = sym (lt-yes _ _ _ _ h refl)
+module _ (s : List ℕ) (from n x : ℕ) where
+  pub has-past : length s < from → false ≡ any (eqb x) (run s from n)
+  has-past h = rw (run-none s from n (omega arith))
 
-  pub run-all : from + 2 * n ≤ length s → run s from n ≡ numbersAt s from n
-  unfolding run
-  run-all h = sym (lt-no _ _ _ _ h refl)
+  pub has-short : from ≤ length s → (length s - from) / 2 < n → false ≡ any (eqb x) (run s from n)
+  has-short i h = rw (run-none s from n (omega arith))
 
-  module _ (x : ℕ) where
-    pub has-past : length s < from → false ≡ any (eqb x) (run s from n)
-    has-past h = rw (run-none (omega arith))
-
-    pub has-short : from ≤ length s → (length s - from) / 2 < n → false ≡ any (eqb x) (run s from n)
-    has-short i h = rw (run-none (omega arith))
-
-    pub has-start : from ≤ length s → n ≤ (length s - from) / 2 → any (eqb x) (numbersAt s from n) ≡ any (eqb x) (run s from n)
-    has-start i h = rw (run-all (omega arith))
+  pub has-start : from ≤ length s → n ≤ (length s - from) / 2 → any (eqb x) (numbersAt s from n) ≡ any (eqb x) (run s from n)
+  has-start i h = rw (run-all s from n (omega arith))
 
 module _ (s : List ℕ) (at x p : ℕ) (y : Bool) where
   pub has-more : (k : ℕ) → any (eqb x) (numbersAt s at k) ≡ y → 0 < k → p ≡ be16 s at → (x ≡ p → ⊥) → any (eqb x) (numbersAt s (at + 2) (k - 1)) ≡ y

@@ -2,7 +2,8 @@
 ghost use mathlib.Core.Path.{_≡_};
 ghost use lib.Dec.{eqb};
 ghost use Rattle.net_file.specs.Lists.{any};
-ghost use Rattle.rule_names.specs.RuleNames.{run, listHas, listsHave, listsAfter, listsOf, taggedNames, taggedAfter, ruleNames, ruleAfter, rulesName};
+ghost use Rattle.ends.specs.Runs.{run};
+ghost use Rattle.rule_names.specs.RuleNames.{listHas, listsHave, listsAfter, listsOf, taggedNames, taggedAfter, ruleNames, ruleAfter, rulesName};
 
 // Whether x is one of n numbers that stand one after another, where all are there.
 fn has(s: &[u8], from: usize, n: u32, x: u32) -> bool

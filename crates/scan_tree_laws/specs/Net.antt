@@ -1,20 +1,17 @@
--- The scan of a net that is read tells its wires, its nodes and its end; and over nets, whether they have at most 4,096 nodes.
-use Prim.Native.Nat.{ℕ, zero, suc, _+_, _*_, _≤_, min}
+-- The scan of a net that is read tells its wires, its nodes and its end; and over nets, how many nodes they have.
+use Prim.Native.Nat.{ℕ, zero, suc, _+_, _*_, _≤_}
 use mathlib.Core.Path.{_≡_, refl, sym, ap, _∙_}
 use mathlib.Core.Option.{some}
 use mathlib.Core.List.{List, [], _∷_, map}
 use native.Mathlib.Omega.{arith}
-use native.Mathlib.Decide.{decLt}
 use lib.ListN.{length, drop}
-use lib.Dec.{leb}
-use borrow.Author.Tests.{le-leb, lt-leb}
 use Rattle.net_file.specs.Lists.{concatMap, sum}
 use Rattle.net_file.specs.Values.{Tree, TreeNet}
-use Rattle.net_file.specs.Read.{_>>=_, give, times, readTree, readLink, readTreeNet, nodesFit}
+use Rattle.net_file.specs.Read.{_>>=_, give, times, readTree, readLink, readTreeNet}
 use Rattle.net_file.specs.Checks.{wiresOf, nodesOf, treesOf, tree}
 use Rattle.fields.specs.Fields.{byte, be16, be32}
 use Rattle.stored.specs.Stored.{tableAt}
-use Rattle.stored.specs.Laws.{bound, stands-as, stands-1, stands-2, stands-4, stands-below, stands-many, stands-times}
+use Rattle.stored.specs.Laws.{bound, table-length, stands-as, stands-1, stands-2, stands-4, stands-below, stands-many, stands-times}
 use Rattle.stored.specs.Parts.{stands-bit}
 use Rattle.stored_tree.specs.Tree.{treeAt, treeEnd, linkAt, linkEnd, linkCountAt, treeNetAt, treeNetEnd}
 use Rattle.stored_tree.specs.Parts.{stands-tree, stands-link, stands-tree-net}
@@ -22,7 +19,7 @@ use Rattle.walk.specs.Loops.{times-suc}
 use Rattle.scan_tree.specs.Count.{linksAt, netNodes, netWires, netEnd, netsNodes}
 use Rattle.stored.specs.Pass.{pass}
 use Rattle.scan_tree_laws.specs.Scanned.{Scanned, scanned-wires, scanned-nodes, scanned-end, concat-append, sum-append}
-use Rattle.scan_tree_laws.specs.Trees.{table-length, scans-many, scans-counted, scans-tree, scans-link}
+use Rattle.scan_tree_laws.specs.Trees.{scans-many, scans-counted, scans-tree, scans-link}
 
 -- the trees of links, two for each
 abbrev linkTrees : Tree × Tree → List Tree
@@ -69,11 +66,11 @@ module _ (s : List ℕ) (paths names at : ℕ) where
 
     free-many : length (treeNetAt s at .free) ≡ byte s (at + 7)
     unfolding treeNetAt
-    free-many = table-length (treeAt s 64) (treeEnd s 64) (at + 8) (byte s (at + 7))
+    free-many = table-length s (treeAt s 64) (treeEnd s 64) (at + 8) (byte s (at + 7))
 
     links-many : length (concatMap linkTrees (treeNetAt s at .links)) ≡ 2 * be16 s (linkCountAt s at)
     unfolding treeNetAt
-    links-many = links-length (tableAt (linkAt s) (linkEnd s) _ _) ∙ ap (λ n. 2 * n) (table-length (linkAt s) (linkEnd s) _ _)
+    links-many = links-length (tableAt (linkAt s) (linkEnd s) _ _) ∙ ap (λ n. 2 * n) (table-length s (linkAt s) (linkEnd s) _ _)
 
     -- the scan finds the link count
     links-place : linksAt s at ≡ linkCountAt s at
@@ -120,11 +117,3 @@ module _ (s : List ℕ) (paths names : ℕ) where
     nets-nodes =
         rw (stands-times s (readTreeNet paths names) (treeNetAt s) (treeNetEnd s) (stands-tree-net s paths names) n at .by ns r i h .0)
         (stored-nodes n at ns r i h)
-
-    -- the test on what `scan_tree::nets_nodes` answers is check 5's on the nodes of the file
-    pub nodes-fit : nodesFit (tree .nodes) ns ≡ leb (min 4097 (netsNodes s at n)) 4096
-    unfolding nodesFit
-    nodes-fit = rw (← nets-nodes) (elim (decLt 4096 (netsNodes s at n)) [
-      | yes l ↦ lt-leb (netsNodes s at n) 4096 l ∙ sym (lt-leb (min 4097 (netsNodes s at n)) 4096 (omega arith))
-      | no l ↦ le-leb (netsNodes s at n) 4096 (omega arith) ∙ sym (le-leb (min 4097 (netsNodes s at n)) 4096 (omega arith))
-    ])

@@ -12,7 +12,7 @@ use Rattle.net_file.specs.Read.{Parser, _>>=_, give, number, times, many, readN
 use Rattle.net_file.specs.Checks.{wiresOf, nodesOf}
 use Rattle.fields.specs.Fields.{byte}
 use Rattle.stored.specs.Stored.{tableAt, tableEnd, nameAt, nameEnd}
-use Rattle.stored.specs.Laws.{Stands, bound, stands-1, stands-below, stands-times}
+use Rattle.stored.specs.Laws.{Stands, bound, table-length, stands-1, stands-below, stands-times}
 use Rattle.stored.specs.Parts.{stands-name}
 use Rattle.stored_tree.specs.Tree.{childCountAt, children, treeAt, treeEnd, linkAt, linkEnd}
 use Rattle.stored_tree.specs.Parts.{stands-tree}
@@ -21,11 +21,6 @@ use Rattle.scan_tree.specs.Scan.{tag-wire, tag-node}
 use Rattle.scan_tree.specs.Count.{wiresFrom, nodesFrom, endFrom}
 use Rattle.stored.specs.Pass.{pass, under}
 use Rattle.scan_tree_laws.specs.Scanned.{Scanned, scanned-none, scanned-then, scanned-wire, scanned-node, scanned-wires, scanned-nodes, scanned-end}
-
-pub table-length : {A : Type 0} (one : ℕ → A) (end : ℕ → ℕ) (at n : ℕ) → length (tableAt one end at n) ≡ n
-unfolding tableAt
-table-length one end at zero = refl
-table-length one end at (suc n) = ap suc (table-length one end (end at) n)
 
 -- ---- one part after another, of which each holds trees
 
@@ -81,7 +76,7 @@ module _ (s : List ℕ) (at : ℕ) where
   unfolding treeAt treeEnd
   scanned-branch d z a =
       rw (tag-node _ _ (byte s at) z, tag-node _ _ (byte s at) z)
-      (scanned-node s at (nameAt s (at + 1)) _ (tableAt (treeAt s d) (treeEnd s d) (childCountAt s at + 1) (children s at)) z (table-length (treeAt s d) (treeEnd s d) _ _) a)
+      (scanned-node s at (nameAt s (at + 1)) _ (tableAt (treeAt s d) (treeEnd s d) (childCountAt s at + 1) (children s at)) z (table-length s (treeAt s d) (treeEnd s d) _ _) a)
 
 module _ (s : List ℕ) (paths names wires : ℕ) where
   -- a node behind its tag
@@ -134,7 +129,7 @@ module _ (s : List ℕ) (paths names wires : ℕ) where
     scanned = rw (stood .0) (scans-run s (readTree paths names wires d) (treeAt s d) (treeEnd s d) (stands-tree s paths names wires d) (scans-tree d) k at ts r i h)
 
     as-many : length ts ≡ k
-    as-many = rw (stood .0) (table-length (treeAt s d) (treeEnd s d) at k)
+    as-many = rw (stood .0) (table-length s (treeAt s d) (treeEnd s d) at k)
 
     pub trees-wires : wiresFrom s at k ≡ concatMap wiresOf ts
     trees-wires = rw as-many at (scanned-wires s at _ ts scanned (stood .3))

@@ -17,7 +17,8 @@ use Rattle.net_file.specs.Read
 use Rattle.fields.specs.Fields.{byte, be16, be32, be64}
 use Rattle.stored.specs.Stored.{tableAt, tableEnd, numbersAt, listAt, listEnd}
 
-some-value : {A : Type 0} {x y : A} {q r : List ℕ} → _≡_ {A = Option (A × List ℕ)} (some (x, q)) (some (y, r)) → (x ≡ y) × (q ≡ r)
+-- two answers that are the same have the same value, and leave the same
+pub some-value : {A : Type 0} {x y : A} {q r : List ℕ} → _≡_ {A = Option (A × List ℕ)} (some (x, q)) (some (y, r)) → (x ≡ y) × (q ≡ r)
 some-value {A} {x} {y} {q} {r} e = (ap (λ o. first o) e, ap (λ o. second o) e)
   where
     first : Option (A × List ℕ) → A

@@ -1,15 +1,15 @@
 -- What was read at a place of the file was read part by part, each where the last ended.
 use Prim.Native.Nat.{ℕ, _<_, _≤_}
-use mathlib.Core.Path.{_≡_, refl, ap}
+use mathlib.Core.Path.{_≡_, refl}
 use mathlib.Core.Bool.{Bool, true, false}
-use mathlib.Core.Option.{Option, none, some}
+use mathlib.Core.Option.{some}
 use mathlib.Core.List.{List}
 use native.Mathlib.Omega.{arith}
 use lib.ListN.{length, drop}
 use lib.Dec.{ltb}
 use borrow.Author.Tests.{ltb-true}
 use Rattle.net_file.specs.Read.{Parser, _>>=_, such, number, below}
-use Rattle.stored.specs.Laws.{Stands, bound}
+use Rattle.stored.specs.Laws.{Stands, some-value, bound}
 
 -- the first part is v and ends at m, and there the rest was read
 pub record Passed {A B : Type 0} (s : List ℕ) (p : Parser A) (f : A → Parser B) (at : ℕ) (v : A) (m : ℕ) (x : B) (r : List ℕ) : Type 0 where
@@ -30,10 +30,6 @@ pub under : (k n x : ℕ) (bs r : List ℕ) → below k n bs ≡ some (x, r) →
 unfolding below
 under k n x bs r h = let b = bound (number k) (λ y. such (ltb y n) y) bs x r h in go (b .value) (b .rest) (ltb (b .value) n) refl (b .next)
   where
-    value : Option (ℕ × List ℕ) → ℕ
-    value none = x
-    value (some q) = q .0
-
     go : (y : ℕ) (q : List ℕ) (t : Bool) → ltb y n ≡ t → such t y q ≡ some (x, r) → x < n
-    go y q true e g = let z : y ≡ x = ap value g in let i = ltb-true y n e in omega arith
+    go y q true e g = let z = some-value g .0 in let i = ltb-true y n e in omega arith
     go y q false e g = let z : _≡_ {A = ℕ} 0 1 = cc in absurd (omega arith)

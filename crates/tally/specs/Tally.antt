@@ -5,7 +5,7 @@ use mathlib.Core.Bool.{Bool, true, false}
 use mathlib.Core.List.{List, [], _∷_, _++_}
 use native.Mathlib.Omega.{arith}
 use native.Mathlib.Decide.{ℕ-discrete, decLt}
-use lib.ListN.{length, getD, set, length-set}
+use lib.ListN.{length, getD, set, length-set, replicate}
 use lib.Seq.{getD-set-same, getD-set-other, set-out}
 use lib.Dec.{eqb}
 use borrow.Author.Tests.{eq-eqb, ne-eqb}
@@ -32,6 +32,12 @@ seen counts base w = getD counts w 0 - base
 abbrev pub Low : List ℕ → ℕ → Type 0
 Low counts b = (w : ℕ) → getD counts w 0 ≤ b
 
+-- at first nothing was seen
+pub blank-low : (n : ℕ) → Low (replicate n 0) 0
+blank-low zero w = omega arith
+blank-low (suc n) zero = omega arith
+blank-low (suc n) (suc w) = blank-low n w
+
 -- ---- one more
 
 more-up : (base c : ℕ) → more base c - base ≡ min 3 (c - base + 1)
@@ -49,7 +55,7 @@ module _ (counts : List ℕ) (base w : ℕ) where
   unfolding bump
   bump-length = rw length-set
 
-  bump-low : Low counts (base + 3) → Low (bump counts base w) (base + 3)
+  pub bump-low : Low counts (base + 3) → Low (bump counts base w) (base + 3)
   unfolding bump
   bump-low l v = elim (ℕ-discrete v w) [
     | yes e ↦ elim (decLt w (length counts)) [
@@ -72,6 +78,15 @@ module _ (counts : List ℕ) (base w : ℕ) where
 abbrev pub Inside : ℕ → List ℕ → Type 0
 Inside n [] = Unit {0}
 Inside n (w ∷ ws) = (w < n) × Inside n ws
+
+pub inside-append : (n : ℕ) (ws vs : List ℕ) → Inside n ws → Inside n vs → Inside n (ws ++ vs)
+inside-append n [] vs h k = k
+inside-append n (w ∷ ws) vs h k = (h .0, inside-append n ws vs (h .1) k)
+
+-- a greater bound
+pub inside-more : (m n : ℕ) → m ≤ n → (ws : List ℕ) → Inside m ws → Inside n ws
+inside-more m n l [] h = tt
+inside-more m n l (w ∷ ws) h = (omega (arith, h .0), inside-more m n l ws (h .1))
 
 pub tally-length : (counts : List ℕ) (base : ℕ) (ws : List ℕ) → length (tally counts base ws) ≡ length counts
 unfolding tally

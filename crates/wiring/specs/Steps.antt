@@ -11,31 +11,25 @@ use lib.Dec.{eqb}
 use borrow.Author.Tests.{eq-eqb, ne-eqb}
 use Rattle.words.specs.Choose.{if-lt, lt-yes, lt-no}
 use Rattle.net_file.specs.Lists.{all}
+use Rattle.list_laws.specs.Lists.{all-append}
 use Rattle.fields.specs.Fields.{byte, be16}
 use Rattle.stored.specs.Stored.{tableAt, numbersAt, nameEnd, nodeEnd, pairAt, pairsAt}
 use Rattle.ends.specs.Ends.{within, on}
+use Rattle.ends.specs.Runs.{run, run-none, run-all}
 use Rattle.tally.specs.Tally.{tally, bump, tally-append}
-use Rattle.wiring.specs.Wiring.{twice, alike, run, pairRun, nodeWires, nodesWires, freeWires, netPairs, netNodes, netWired}
+use Rattle.wiring.specs.Wiring.{twice, alike, pairRun, nodeWires, nodesWires, freeWires, netPairs, netNodes, netWired}
 
 module _ (s : List ℕ) (from n : ℕ) where
-  run-none : length s < from + 2 * n → run s from n ≡ []
-  unfolding run
-  run-none h = sym (lt-yes _ _ _ _ h refl)
-
-  run-all : from + 2 * n ≤ length s → run s from n ≡ numbersAt s from n
-  unfolding run
-  run-all h = sym (lt-no _ _ _ _ h refl)
-
   pub tally-past : (counts : List ℕ) (base : ℕ) → length s < from → counts ≡ tally counts base (run s from n)
   unfolding tally
-  tally-past counts base h = rw (run-none (omega arith))
+  tally-past counts base h = rw (run-none s from n (omega arith))
 
   pub tally-short : (counts : List ℕ) (base : ℕ) → from ≤ length s → (length s - from) / 2 < n → counts ≡ tally counts base (run s from n)
   unfolding tally
-  tally-short counts base i h = rw (run-none (omega arith))
+  tally-short counts base i h = rw (run-none s from n (omega arith))
 
   pub tally-start : (counts : List ℕ) (base : ℕ) → from ≤ length s → n ≤ (length s - from) / 2 → tally counts base (numbersAt s from n) ≡ tally counts base (run s from n)
-  tally-start counts base i h = rw (run-all (omega arith))
+  tally-start counts base i h = rw (run-all s from n (omega arith))
 
 pub tally-more : (s counts c : List ℕ) (base at k w : ℕ) (x : List ℕ) → tally counts base (numbersAt s at k) ≡ x → 0 < k → w ≡ be16 s at → c ≡ bump counts base w
     → tally c base (numbersAt s (at + 2) (k - 1)) ≡ x
@@ -97,14 +91,6 @@ module _ (s counts : List ℕ) (base at w c : ℕ) (x : Bool) where
   twice-done (suc k) g h = absurd (not-suc-le-zero h)
 
 -- ---- nodes seen twice
-
-pub all-append : {A : Type 0} (f : A → Bool) (xs ys : List A) → all f (xs ++ ys) ≡ (all f xs && all f ys)
-all-append f [] ys = refl
-all-append f (x ∷ xs) ys = ap (λ t. f x && t) (all-append f xs ys) ∙ sym (and-assoc (f x) (all f xs) (all f ys))
-  where
-    and-assoc : (a b c : Bool) → (a && b && c) ≡ (a && (b && c))
-    and-assoc true b c = refl
-    and-assoc false b c = refl
 
 module _ (s counts : List ℕ) (base at e : ℕ) (ee : e ≡ within s (nameEnd s at)) (t : Bool) (et : t ≡ all (twice counts base) (run s e 1)) where
   apart : all (twice counts base) (nodeWires s at) ≡ (t && all (twice counts base) (run s (on s e 3) (byte s (on s e 2))))

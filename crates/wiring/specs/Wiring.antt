@@ -7,8 +7,9 @@ use lib.Dec.{eqb}
 use Rattle.words.specs.Choose.{if-lt}
 use Rattle.net_file.specs.Lists.{all}
 use Rattle.fields.specs.Fields.{byte, be16}
-use Rattle.stored.specs.Stored.{numbersAt, nameEnd, nodeEnd, pairsAt, pairCountAt, nodeCountAt}
+use Rattle.stored.specs.Stored.{nameEnd, nodeEnd, pairsAt, pairCountAt, nodeCountAt}
 use Rattle.ends.specs.Ends.{within, on}
+use Rattle.ends.specs.Runs.{run}
 use Rattle.tally.specs.Tally.{tally}
 
 -- w was seen twice since the base
@@ -20,16 +21,12 @@ unfoldable pub alike : List ℕ → ℕ × ℕ → Bool
 alike counts p = eqb (getD counts (p .0) 0) (getD counts (p .1) 0)
 
 module _ (s : List ℕ) where
-  -- n wires that stand one after another, where all are there
-  unfoldable pub run : ℕ → ℕ → List ℕ
-  run from n = if-lt (length s) (from + 2 * n) [] (numbersAt s from n)
-
   -- n pairs, where all are there
   unfoldable pub pairRun : ℕ → ℕ → List (ℕ × ℕ)
   pairRun from n = if-lt (length s) (from + 4 * n) [] (pairsAt s from n)
 
   unfoldable pub nodeWires : ℕ → List ℕ
-  nodeWires at = let e = within s (nameEnd s at) in run e 1 ++ run (on s e 3) (byte s (on s e 2))
+  nodeWires at = let e = within s (nameEnd s at) in run s e 1 ++ run s (on s e 3) (byte s (on s e 2))
 
   unfoldable pub nodesWires : ℕ → ℕ → List ℕ
   nodesWires at zero = []
@@ -37,10 +34,10 @@ module _ (s : List ℕ) where
 
   -- the parts of a net
   unfoldable pub freeWires : ℕ → List ℕ
-  freeWires at = run (on s at 8) (byte s (on s at 7))
+  freeWires at = run s (on s at 8) (byte s (on s at 7))
 
   unfoldable pub pairedWires : ℕ → List ℕ
-  pairedWires at = let p = within s (pairCountAt s at) in run (on s p 2) (2 * be16 s p)
+  pairedWires at = let p = within s (pairCountAt s at) in run s (on s p 2) (2 * be16 s p)
 
   unfoldable pub netPairs : ℕ → List (ℕ × ℕ)
   netPairs at = let p = within s (pairCountAt s at) in pairRun (on s p 2) (be16 s p)

@@ -3,7 +3,8 @@
 ghost use mathlib.Core.Path.{_≡_};
 ghost use Rattle.net_file.specs.Lists.{all};
 ghost use Rattle.tally.specs.Tally.{tally};
-ghost use Rattle.wiring.specs.Wiring.{run, pairRun, nodeWires, nodesWires, freeWires, pairedWires, netPairs, netNodes, twice, alike, netTallied, netWired};
+ghost use Rattle.ends.specs.Runs.{run};
+ghost use Rattle.wiring.specs.Wiring.{pairRun, nodeWires, nodesWires, freeWires, pairedWires, netPairs, netNodes, twice, alike, netTallied, netWired};
 
 // n wires that stand one after another, where all are there.
 pub fn tally_run(counts: &mut [u32], base: u16, s: &[u8], from: usize, n: u32)

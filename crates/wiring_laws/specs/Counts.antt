@@ -14,8 +14,9 @@ use lib.Dec.{eqb}
 use borrow.Author.Tests.{eqb-true, eq-eqb}
 use Rattle.net_file.specs.Lists.{all, any}
 use Rattle.net_file.specs.Checks.{pairWires, occurs, pairWired, wireWired}
+use Rattle.list_laws.specs.Tests.{same-test, both, both-are, either}
 use Rattle.wiring.specs.Wiring.{twice, alike}
-use Rattle.wiring_laws.specs.Members.{same-test, both, both-are, either, In, all-in, in-all, in-occurs, occurs-in, any-in, in-any, in-pair, pair-in}
+use Rattle.wiring_laws.specs.Members.{In, all-in, in-all, in-occurs, occurs-in, any-in, in-any, in-pair, pair-in}
 
 -- ---- what the tests say
 

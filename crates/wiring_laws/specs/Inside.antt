@@ -1,24 +1,18 @@
 -- Every wire of a net that is read is below 65,536, since it is below the net's counter.
 use Prim.Native.Nat.{ℕ, zero, suc, _<_, _≤_}
-use mathlib.Core.Path.{_≡_, refl, ap}
-use mathlib.Core.Bool.{Bool, true, false}
-use mathlib.Core.Option.{Option, some}
+use mathlib.Core.Path.{_≡_}
+use mathlib.Core.Option.{some}
 use mathlib.Core.List.{List, [], _∷_, _++_}
 use native.Mathlib.Omega.{arith}
-use lib.Dec.{ltb}
-use borrow.Author.Tests.{ltb-true}
 use Rattle.net_file.specs.Lists.{concatMap}
 use Rattle.net_file.specs.Values.{FlatNet}
-use Rattle.net_file.specs.Read.{Parser, _>>=_, give, such, number, below, timesFrom, times, many, readBit, readName, readNode, readPair, readFlatNet}
+use Rattle.net_file.specs.Read.{Parser, _>>=_, give, below, timesFrom, times, many, readBit, readName, readNode, readPair, readFlatNet}
 use Rattle.net_file.specs.Checks.{pairWires}
-use Rattle.stored.specs.Laws.{bound}
-use Rattle.tally.specs.Tally.{Inside}
+use Rattle.stored.specs.Laws.{some-value, bound}
+use Rattle.stored.specs.Pass.{under}
+use Rattle.tally.specs.Tally.{Inside, inside-append}
 
 -- ---- lists
-
-pub inside-append : (n : ℕ) (xs ys : List ℕ) → Inside n xs → Inside n ys → Inside n (xs ++ ys)
-inside-append n [] ys h k = k
-inside-append n (x ∷ xs) ys h k = (h .0, inside-append n xs ys (h .1) k)
 
 -- a fact of each element
 abbrev pub Each : {A : Type 0} → (A → Type 0) → List A → Type 0
@@ -39,22 +33,11 @@ inside-concat n f (x ∷ xs) h = inside-append n (f x) (concatMap f xs) (h .0) (
 abbrev Reads : {A : Type 0} → Parser A → (A → Type 0) → Type 0
 Reads {A} p P = (bs : List ℕ) (x : A) (r : List ℕ) → p bs ≡ some (x, r) → P x
 
--- two answers that are the same have the same value, and leave the same
-pub some-same : {A : Type 0} (x y : A) (q r : List ℕ) → _≡_ {A = Option (A × List ℕ)} (some (x, q)) (some (y, r)) → (x ≡ y) × (q ≡ r)
-some-same {A} x y q r e = let k : _≡_ {A = A × List ℕ} (x, q) (y, r) = cc in (ap (λ p. p .0) k, ap (λ p. p .1) k)
-
 give-reads : {A : Type 0} (P : A → Type 0) (a : A) → P a → Reads (give a) P
-give-reads P a h bs x r e = rw (some-same a x bs r e .0) at h
+give-reads P a h bs x r e = rw (some-value e .0) at h
 
 below-reads : (k n : ℕ) → Reads (below k n) (λ w. w < n)
-unfolding below
-below-reads k n bs x r e =
-    let b = bound (number k) (λ y. such (ltb y n) y) bs x r e in
-    go (b .value) (b .rest) (ltb (b .value) n) refl (b .next)
-  where
-    go : (y : ℕ) (q : List ℕ) (t : Bool) → ltb y n ≡ t → such t y q ≡ some (x, r) → x < n
-    go y q true l f = rw (some-same y x q r f .0) at (ltb-true y n l)
-    go y q false l f = let z : _≡_ {A = ℕ} 0 1 = cc in absurd (omega arith)
+below-reads k n bs x r e = under k n x bs r e
 
 -- the second part, where the first is so
 bind-reads : {A B : Type 0} (p : Parser A) (f : A → Parser B) (P : A → Type 0) (Q : B → Type 0) → Reads p P → ((a : A) → P a → Reads (f a) Q) → Reads (p >>= f) Q

@@ -9,26 +9,9 @@ use native.Mathlib.Decide.{ℕ-discrete, decLt}
 use lib.Dec.{eqb}
 use borrow.Author.Tests.{eqb-true, eq-eqb, ne-eqb, not-true}
 use Rattle.net_file.specs.Lists.{all, any, count, distinct}
+use Rattle.list_laws.specs.Tests.{both, both-are, either}
+use Rattle.list_laws.specs.Lists.{count-once}
 use Rattle.net_file.specs.Checks.{pairWires, occurs}
-
--- ---- tests
-
--- two tests are the same where each passes if the other does
-pub same-test : (a b : Bool) → (a ≡ true → b ≡ true) → (b ≡ true → a ≡ true) → a ≡ b
-same-test true b f g = sym (f refl)
-same-test false true f g = g refl
-same-test false false f g = refl
-
-pub both : (a b : Bool) → (a && b) ≡ true → (a ≡ true) × (b ≡ true)
-both true b e = (refl, e)
-both false b e = let z : _≡_ {A = ℕ} 0 1 = cc in absurd (omega arith)
-
-pub both-are : (a b : Bool) → a ≡ true → b ≡ true → (a && b) ≡ true
-both-are a b e f = rw e f
-
-pub either : (a b : Bool) → (a || b) ≡ true → (a ≡ true) ⊎ (b ≡ true)
-either true b e = inl refl
-either false b e = inr e
 
 -- ---- lists
 
@@ -45,14 +28,6 @@ module _ {A : Type 0} where
   pub in-all : (f : A → Bool) (xs : List A) → ((x : A) → In x xs → f x ≡ true) → all f xs ≡ true
   in-all f [] h = refl
   in-all f (x ∷ xs) h = both-are (f x) (all f xs) (h x (inl refl)) (in-all f xs (λ y i. h y (inr i)))
-
-  pub all-append : (f : A → Bool) (xs ys : List A) → all f (xs ++ ys) ≡ (all f xs && all f ys)
-  all-append f [] ys = refl
-  all-append f (x ∷ xs) ys = go (f x) (all-append f xs ys)
-    where
-      go : (t : Bool) → all f (xs ++ ys) ≡ (all f xs && all f ys) → (t && all f (xs ++ ys)) ≡ ((t && all f xs) && all f ys)
-      go true e = e
-      go false e = refl
 
 -- ---- how often a wire occurs
 
@@ -85,23 +60,10 @@ module _ (w : ℕ) where
   in-any (v ∷ vs) (inl e) = rw (eq-eqb w v e)
   in-any (v ∷ vs) (inr i) = rw (in-any vs i, or-true)
 
-  absent : (ws : List ℕ) → any (eqb w) ws ≡ false → occurs w ws ≡ 0
-  absent ws e = elim (decLt 0 (occurs w ws)) [
-    | yes h ↦ let z : _≡_ {A = ℕ} 0 1 = cc (in-any ws (occurs-in ws h)) in absurd (omega arith)
-    | no h ↦ omega arith
-  ]
-
   -- where all differ, a wire is there once at most
   pub occurs-once : (ws : List ℕ) → distinct eqb ws ≡ true → occurs w ws ≤ 1
   unfolding occurs
-  occurs-once [] e = omega arith
-  occurs-once (v ∷ vs) e = elim (ℕ-discrete w v) [
-    | yes h ↦ rw (eq-eqb w v h) (let n : count (eqb w) vs ≡ 0 = absent vs (rw (← h) at (not-true (any (eqb v) vs) (d .0))) in omega arith)
-    | no n ↦ rw (ne-eqb w v n) (let h = occurs-once vs (d .1) in omega arith)
-  ]
-    where
-      d : (not (any (eqb v) vs) ≡ true) × (distinct eqb vs ≡ true)
-      d = both (not (any (eqb v) vs)) (distinct eqb vs) e
+  occurs-once ws e = count-once eqb eqb-true w ws e
 
 -- ---- the wires of pairs
 

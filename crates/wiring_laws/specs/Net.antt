@@ -1,7 +1,7 @@
 -- Check 7 of one net is document 01's "Well wired", on a net that is read and whose pairs are in order (check 6).
 use Prim.Native.Nat.{ℕ, _+_, _-_, _≤_, min}
 use mathlib.Core.Path.{_≡_, refl, sym, ap, _∙_}
-use mathlib.Core.Bool.{Bool, true, false, _&&_}
+use mathlib.Core.Bool.{true, _&&_, and-assoc}
 use mathlib.Core.Option.{some}
 use mathlib.Core.List.{List, _++_, map}
 use native.Mathlib.Omega.{arith}
@@ -9,24 +9,22 @@ use lib.ListN.{length, getD, drop}
 use lib.Dec.{eqb, ltb}
 use Rattle.net_file.specs.Lists.{all, distinct, concatMap, ascend}
 use Rattle.net_file.specs.Values.{FlatNet}
+use Rattle.list_laws.specs.Tests.{both}
+use Rattle.list_laws.specs.Lists.{all-append}
 use Rattle.net_file.specs.Read.{readFlatNet}
 use Rattle.net_file.specs.Checks.{pairWires, pairsOrdered, occurs, places, pairWired, wireWired, flatWired}
 use Rattle.stored.specs.Parts.{stands-net}
-use Rattle.tally.specs.Tally.{tally, seen, Low, Inside, tally-length, tally-low, tally-append, tally-seen}
+use Rattle.tally.specs.Tally.{tally, seen, Low, Inside, inside-append, tally-length, tally-low, tally-append, tally-seen}
 use Rattle.wiring.specs.Wiring.{twice, alike, freeWires, pairedWires, netPairs, netNodes, netTallied, netWired}
-use Rattle.wiring_laws.specs.Members.{both, all-append, occurs-append, occurs-once}
+use Rattle.wiring_laws.specs.Members.{occurs-append, occurs-once}
 use Rattle.wiring_laws.specs.Counts.{counts-tell}
-use Rattle.wiring_laws.specs.Inside.{inside-append, Wires, net-reads}
+use Rattle.wiring_laws.specs.Inside.{Wires, net-reads}
 use Rattle.wiring_laws.specs.Places.{nodePlaces, free-are, pairs-are, paired-are, noded-are}
 
 -- in a net whose pairs are in order no wire is in two pairs
 pub pairs-once : (ps : List (ℕ × ℕ)) → pairsOrdered ps ≡ true → (w : ℕ) → occurs w (pairWires ps) ≤ 1
 unfolding pairsOrdered
 pairs-once ps e w = occurs-once w (pairWires ps) (both (all (λ p. ltb (p .0) (p .1)) ps && ascend (map (λ p. p .0) ps)) (distinct eqb (pairWires ps)) e .1)
-
-and-assoc : (a b c : Bool) → (a && b && c) ≡ (a && (b && c))
-and-assoc true b c = refl
-and-assoc false b c = refl
 
 -- ---- what the counts are, of lists
 

@@ -6,32 +6,21 @@ use mathlib.Core.Option.{some}
 use mathlib.Core.List.{List, [], _∷_}
 use native.Mathlib.Omega.{arith}
 use lib.ListN.{length, drop, replicate, length-replicate}
-use Rattle.words.specs.Choose.{pick}
+use Rattle.words.specs.Choose.{pick-and}
 use Rattle.net_file.specs.Lists.{all}
 use Rattle.net_file.specs.Values.{FlatNet}
+use Rattle.list_laws.specs.Tests.{both}
 use Rattle.net_file.specs.Read.{timesFrom, times, readFlatNet}
 use Rattle.net_file.specs.Checks.{pairsOrdered, flatWired}
-use Rattle.stored.specs.Stored.{flatNetEnd}
-use Rattle.stored.specs.Laws.{bound}
+use Rattle.stored.specs.Stored.{flatNetAt, flatNetEnd}
+use Rattle.stored.specs.Laws.{some-value, bound}
+use Rattle.stored.specs.Pass.{pass}
 use Rattle.stored.specs.Parts.{stands-net}
 use Rattle.ends.specs.Ends.{within}
-use Rattle.tally.specs.Tally.{Low}
+use Rattle.tally.specs.Tally.{Low, blank-low}
 use Rattle.wiring.specs.Wiring.{netTallied}
 use Rattle.wiring_nets.specs.Nets.{netsFrom, netsWired, nets-start}
-use Rattle.wiring_laws.specs.Members.{both}
-use Rattle.wiring_laws.specs.Inside.{some-same}
 use Rattle.wiring_laws.specs.Net.{tallied-length, tallied-low, net-wired}
-
--- at first nothing was seen
-blank-low : (n : ℕ) → Low (replicate n 0) 0
-blank-low zero w = omega arith
-blank-low (suc n) zero = omega arith
-blank-low (suc n) (suc w) = blank-low n w
-
-pick-and : (a b : Bool) → pick a b false ≡ (a && b)
-unfolding pick
-pick-and true b = refl
-pick-and false b = refl
 
 -- nets that were read one after another: the first, and the others from its end on
 module _ (s : List ℕ) (paths names : ℕ) where
@@ -46,24 +35,23 @@ module _ (s : List ℕ) (paths names : ℕ) where
   split : (at i n : ℕ) (ns : List FlatNet) (r : List ℕ) → timesFrom (λ j. readFlatNet paths names) i (suc n) (drop at s) ≡ some (ns, r) → at ≤ length s → Split at i n ns r
   unfolding timesFrom
   split at i n ns r e h =
-      let b = bound (readFlatNet paths names) _ (drop at s) ns r e in
-      let y = stands-net s paths names at .by (b .value) (b .rest) h (b .first) in
-      let c = bound (timesFrom (λ j. readFlatNet paths names) (suc i) n) _ (drop (flatNetEnd s at) s) ns r (rw (y .1) at (b .next)) in
-      let z = some-same (b .value ∷ c .value) ns (c .rest) r (c .next) in
+      let b = pass _ ns r (stands-net s paths names at) h e in
+      let c = bound (timesFrom (λ j. readFlatNet paths names) (suc i) n) _ (drop (flatNetEnd s at) s) ns r (b .next) in
+      let z = some-value (c .next) in
       record {
-        one = b .value;
+        one = flatNetAt s at;
         others = c .value;
         all-of = sym (z .0);
-        read-one = rw (y .1) at (b .first);
+        read-one = b .first;
         read-others = rw (z .1) at (c .first);
-        end = y .3;
+        end = b .inside;
       }
 
   -- each net above the counts of the one before
   nets-tell : (n i at : ℕ) (counts : List ℕ) (base : ℕ) (ns : List FlatNet) (r : List ℕ) → timesFrom (λ j. readFlatNet paths names) i n (drop at s) ≡ some (ns, r)
       → at ≤ length s → Low counts base → length counts ≡ 65536 → all (λ m. pairsOrdered (m .pairs)) ns ≡ true → netsFrom counts base s at n ≡ all flatWired ns
   unfolding netsFrom timesFrom
-  nets-tell zero i at counts base ns r e h l len o = ap (all flatWired) (some-same [] ns (drop at s) r e .0)
+  nets-tell zero i at counts base ns r e h l len o = ap (all flatWired) (some-value e .0)
   nets-tell (suc n) i at counts base ns r e h l len o =
       let d = split at i n ns r e h in
       let c = netTallied counts base s at in

@@ -10,30 +10,16 @@ use Rattle.net_file.specs.Values.{FlatNode}
 use Rattle.net_file.specs.Checks.{pairWires}
 use Rattle.fields.specs.Fields.{byte, be16}
 use Rattle.stored.specs.Stored.{tableAt, tableEnd, numbersAt, listAt, listEnd, nameEnd, nodeAt, nodeEnd, pairAt, pairsAt, nodesAt, pairCountAt, nodeCountAt, flatNetAt, flatNetEnd}
-use Rattle.ends.specs.Ends.{within, on}
-use Rattle.wiring.specs.Wiring.{run, pairRun, nodeWires, nodesWires, freeWires, pairedWires, netPairs, netNodes}
+use Rattle.ends.specs.Ends.{within, on, node-up, table-up, nodes-past}
+use Rattle.ends.specs.Runs.{run-all}
+use Rattle.wiring.specs.Wiring.{pairRun, nodeWires, nodesWires, freeWires, pairedWires, netPairs, netNodes}
 
 -- the places of a node
 abbrev pub nodePlaces : FlatNode → List ℕ
 nodePlaces m = m .pri ∷ m .aux
 
 module _ (s : List ℕ) where
-  -- ---- each part ends after it begins
-
-  node-up : (at : ℕ) → at ≤ nodeEnd s at
-  unfolding nodeEnd nameEnd listEnd
-  node-up at = omega arith
-
-  nodes-up : (n at : ℕ) → at ≤ tableEnd (nodeEnd s) at n
-  unfolding tableEnd
-  nodes-up zero at = omega arith
-  nodes-up (suc n) at = omega (arith, node-up at, nodes-up n (nodeEnd s at))
-
   -- ---- runs that are there
-
-  run-is : (from n : ℕ) → from + 2 * n ≤ length s → run s from n ≡ numbersAt s from n
-  unfolding run
-  run-is from n h = sym (lt-no _ _ _ _ h refl)
 
   pair-run-is : (from n : ℕ) → from + 4 * n ≤ length s → pairRun s from n ≡ pairsAt s from n
   unfolding pairRun
@@ -60,13 +46,13 @@ module _ (s : List ℕ) where
       let e : within s (nameEnd s at) ≡ nameEnd s at = omega arith in
       let f : on s (nameEnd s at) 2 ≡ nameEnd s at + 2 = omega arith in
       let g : on s (nameEnd s at) 3 ≡ nameEnd s at + 2 + 1 = omega arith in
-      rw (e, f, g, run-is (nameEnd s at) 1 (omega arith), run-is (nameEnd s at + 2 + 1) (byte s (nameEnd s at + 2)) (omega arith), one-is (nameEnd s at))
+      rw (e, f, g, run-all s (nameEnd s at) 1 (omega arith), run-all s (nameEnd s at + 2 + 1) (byte s (nameEnd s at + 2)) (omega arith), one-is (nameEnd s at))
 
   nodes-are : (n at : ℕ) → tableEnd (nodeEnd s) at n ≤ length s → nodesWires s at n ≡ concatMap nodePlaces (nodesAt s at n)
   unfolding nodesWires nodesAt tableAt tableEnd
   nodes-are zero at h = refl
   nodes-are (suc n) at h =
-      let l : nodeEnd s at ≤ length s = omega (arith, nodes-up n (nodeEnd s at)) in
+      let l : nodeEnd s at ≤ length s = omega (arith, table-up (nodeEnd s) (node-up s) (nodeEnd s at) n) in
       let e : within s (nodeEnd s at) ≡ nodeEnd s at = omega arith in
       rw (e, node-is at l, nodes-are n (nodeEnd s at) h)
 
@@ -74,8 +60,7 @@ module _ (s : List ℕ) where
 
   module _ (at : ℕ) (h : flatNetEnd s at ≤ length s) where
     nodes-in : nodeCountAt s at + 2 ≤ length s
-    unfolding flatNetEnd
-    nodes-in = omega (arith, nodes-up (be16 s (nodeCountAt s at)) (nodeCountAt s at + 2))
+    nodes-in = omega (arith, nodes-past s at)
 
     pairs-in : pairCountAt s at + 2 + 4 * be16 s (pairCountAt s at) ≤ length s
     unfolding nodeCountAt
@@ -97,7 +82,7 @@ module _ (s : List ℕ) where
         let l = free-in in
         let e : on s at 8 ≡ at + 7 + 1 = omega arith in
         let f : on s at 7 ≡ at + 7 = omega arith in
-        rw (e, f, run-is (at + 7 + 1) (byte s (at + 7)) l)
+        rw (e, f, run-all s (at + 7 + 1) (byte s (at + 7)) l)
 
     pub pairs-are : netPairs s at ≡ flatNetAt s at .pairs
     unfolding netPairs flatNetAt
@@ -107,7 +92,7 @@ module _ (s : List ℕ) where
     unfolding pairedWires flatNetAt
     paired-are =
         let l : pairCountAt s at + 2 + 2 * (2 * be16 s (pairCountAt s at)) ≤ length s = omega (arith, pairs-in) in
-        rw (pair-place, on-pairs, run-is (pairCountAt s at + 2) (2 * be16 s (pairCountAt s at)) l) (pairs-flat (be16 s (pairCountAt s at)) (pairCountAt s at + 2))
+        rw (pair-place, on-pairs, run-all s (pairCountAt s at + 2) (2 * be16 s (pairCountAt s at)) l) (pairs-flat (be16 s (pairCountAt s at)) (pairCountAt s at + 2))
 
     pub noded-are : netNodes s at ≡ concatMap nodePlaces (flatNetAt s at .nodes)
     unfolding netNodes flatNetAt flatNetEnd

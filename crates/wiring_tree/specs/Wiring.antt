@@ -9,7 +9,7 @@ use Rattle.net_file.specs.Lists.{all, concatMap}
 use Rattle.fields.specs.Fields.{byte, be16}
 use Rattle.tally.specs.Tally.{tally, bump, tally-append, tally-length}
 use Rattle.wiring.specs.Wiring.{twice}
-use Rattle.wiring.specs.Steps.{all-append}
+use Rattle.list_laws.specs.Lists.{all-append}
 use Rattle.scan_tree.specs.declared.Scan.{Scan}
 use Rattle.scan_tree.specs.Scan.{begin, step, places, tag-wire, tag-node}
 use Rattle.scan_tree.specs.Count.{scan, wireAt, wiresFrom, endFrom, linksAt, netWires, links-is, net-wires-past, Runs, runs-begin, runs-next, runs-more, runs-none}

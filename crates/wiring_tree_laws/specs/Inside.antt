@@ -1,36 +1,19 @@
 -- Every wire of a net that is read is below its wire counter, so it has a word in the tally (`inside-net`).
 use Prim.Native.Nat.{ℕ, zero, suc, _≤_}
-use mathlib.Core.Path.{_≡_, ap, subst}
-use mathlib.Core.Option.{Option, none, some}
+use mathlib.Core.Path.{_≡_, subst}
+use mathlib.Core.Option.{some}
 use mathlib.Core.List.{List, [], _∷_, _++_, append-nil}
 use native.Mathlib.Omega.{arith}
 use Rattle.net_file.specs.Lists.{concatMap}
 use Rattle.net_file.specs.Values.{Tree, wire, node, trees, TreeNet}
 use Rattle.net_file.specs.Read.{Parser, _>>=_, give, below, times, many, readName, readBit, readWire, byTag, readTree, readLink, readTreeNet}
 use Rattle.net_file.specs.Checks.{wiresOf, treesOf}
-use Rattle.stored.specs.Laws.{bound}
+use Rattle.stored.specs.Laws.{some-value, bound}
 use Rattle.walk.specs.Loops.{times-zero, times-suc}
-use Rattle.tally.specs.Tally.{Inside}
+use Rattle.tally.specs.Tally.{Inside, inside-append, inside-more}
 use Rattle.stored.specs.Pass.{under}
 use Rattle.scan_tree_laws.specs.Trees.{singles}
 use Rattle.scan_tree_laws.specs.Scanned.{concat-append, wires-listed}
-
--- what was given is what was read
-given : {A : Type 0} (x y : A) (q r : List ℕ) → give x q ≡ some (y, r) → x ≡ y
-given {A} x y q r e = ap value e
-  where
-    value : Option (A × List ℕ) → A
-    value none = x
-    value (some p) = p .0
-
-pub inside-append : (n : ℕ) (ws vs : List ℕ) → Inside n ws → Inside n vs → Inside n (ws ++ vs)
-inside-append n [] vs h k = k
-inside-append n (w ∷ ws) vs h k = (h .0, inside-append n ws vs (h .1) k)
-
--- a greater bound
-inside-more : (m n : ℕ) → m ≤ n → (ws : List ℕ) → Inside m ws → Inside n ws
-inside-more m n l [] h = Prim.tt
-inside-more m n l (w ∷ ws) h = (omega (arith, h .0), inside-more m n l ws (h .1))
 
 module _ (wires : ℕ) where
   -- the wires of trees
@@ -44,11 +27,11 @@ module _ (wires : ℕ) where
 
   module _ {A : Type 0} (p : Parser A) (ts : A → List Tree) (each : (bs : List ℕ) (x : A) (r : List ℕ) → p bs ≡ some (x, r) → Within (ts x)) where
     within-times : (n : ℕ) (bs : List ℕ) (xs : List A) (r : List ℕ) → times n p bs ≡ some (xs, r) → Within (concatMap ts xs)
-    within-times zero bs xs r h = rw (← given [] xs bs r (rw times-zero at h)) Prim.tt
+    within-times zero bs xs r h = rw (← some-value (rw times-zero at h) .0) Prim.tt
     within-times (suc n) bs xs r h =
         let b = bound p (λ x. times n p >>= λ ys. give (x ∷ ys)) bs xs r (rw times-suc at h) in
         let c = bound (times n p) (λ ys. give (b .value ∷ ys)) (b .rest) xs r (b .next) in
-        rw (← given (b .value ∷ c .value) xs (c .rest) r (c .next))
+        rw (← some-value (c .next) .0)
         (within-append (ts (b .value)) (concatMap ts (c .value)) (each bs (b .value) (b .rest) (b .first)) (within-times n (b .rest) (c .value) (c .rest) (c .first)))
 
     within-many : (k m : ℕ) (bs : List ℕ) (xs : List A) (r : List ℕ) → many k m p bs ≡ some (xs, r) → Within (concatMap ts xs)
@@ -62,7 +45,7 @@ module _ (wires : ℕ) where
   within-wire bs x r h =
       let b = bound (below 2 wires) (λ w. give (wire w)) bs x r h in
       let l = under 2 wires (b .value) bs (b .rest) (b .first) in
-      rw (← given (wire (b .value)) x (b .rest) r (b .next)) (l, Prim.tt)
+      rw (← some-value (b .next) .0) (l, Prim.tt)
 
 module _ (paths names wires : ℕ) where
   -- a node behind its tag
@@ -79,7 +62,7 @@ module _ (paths names wires : ℕ) where
       let b = bound (readName paths names) _ bs x r h in
       let c = bound (many 1 15 (readTree paths names wires d)) (λ ts. give (node (b .value) (trees ts))) (b .rest) x r (b .next) in
       let w = within-many wires (readTree paths names wires d) (λ t. t ∷ []) each 1 15 (b .rest) (c .value) (c .rest) (c .first) in
-      rw (← given (node (b .value) (trees (c .value))) x (c .rest) r (c .next), append-nil, wires-listed (c .value)) (rw (singles (c .value)) at w)
+      rw (← some-value (c .next) .0, append-nil, wires-listed (c .value)) (rw (singles (c .value)) at w)
 
   within-tagged : (d tag : ℕ) → Safe d → (bs : List ℕ) (x : Tree) (r : List ℕ) → byTag tag (readWire wires) (nodeOf d) bs ≡ some (x, r) → Within wires (x ∷ [])
   unfolding byTag
@@ -99,7 +82,7 @@ module _ (paths names wires : ℕ) where
       let aTree = readTree paths names wires 64 in
       let b = bound aTree (λ a. aTree >>= λ b. give (a, b)) bs x r h in
       let c = bound aTree (λ t. give (b .value, t)) (b .rest) x r (b .next) in
-      rw (← given (b .value, c .value) x (c .rest) r (c .next))
+      rw (← some-value (c .next) .0)
       (within-append wires (b .value ∷ []) (c .value ∷ []) (within-tree 64 bs (b .value) (b .rest) (b .first)) (within-tree 64 (b .rest) (c .value) (c .rest) (c .first)))
 
 -- ---- a net
@@ -120,5 +103,5 @@ inside-net paths names n room bs x r h =
     let links = within-many wires aLink (λ t. t .0 ∷ t .1 ∷ []) (within-link paths names wires) 2 65535 (d .rest) (e .value) (e .rest) (e .first) in
     inside-more wires n (omega arith) (concatMap wiresOf (treesOf x))
     (subst (λ (y : TreeNet). Inside wires (concatMap wiresOf (treesOf y)))
-    (given (record { name = a .value; included = b .value; wires = wires; free = d .value; links = e .value }) x (e .rest) r (e .next))
+    (some-value (e .next) .0)
     (within-append wires (d .value) (concatMap (λ t. t .0 ∷ t .1 ∷ []) (e .value)) (rw (singles (d .value)) at free) links))

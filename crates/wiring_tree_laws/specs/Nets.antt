@@ -6,7 +6,7 @@ use mathlib.Core.Option.{some}
 use mathlib.Core.List.{List, _∷_}
 use native.Mathlib.Omega.{arith}
 use lib.ListN.{length, drop, replicate, length-replicate}
-use Rattle.words.specs.Choose.{pick}
+use Rattle.words.specs.Choose.{pick-and}
 use Rattle.net_file.specs.Lists.{all}
 use Rattle.net_file.specs.Values.{TreeNet}
 use Rattle.net_file.specs.Read.{_>>=_, give, times, readTreeNet}
@@ -16,23 +16,12 @@ use Rattle.stored.specs.Laws.{bound, stands-times}
 use Rattle.stored_tree.specs.Tree.{treeNetAt, treeNetEnd}
 use Rattle.stored_tree.specs.Parts.{stands-tree-net}
 use Rattle.walk.specs.Loops.{times-suc}
-use Rattle.tally.specs.Tally.{Low}
+use Rattle.tally.specs.Tally.{Low, blank-low}
 use Rattle.stored.specs.Pass.{pass}
 use Rattle.scan_tree_laws.specs.Net.{net-end}
 use Rattle.wiring_tree.specs.Wiring.{netTallied}
 use Rattle.wiring_tree_nets.specs.Nets.{netsFrom, netsWired, nets-start}
 use Rattle.wiring_tree_laws.specs.Wired.{tree-wired, tree-low, tree-long}
-
--- at first nothing was seen
-blank-low : (n : ℕ) → Low (replicate n 0) 0
-blank-low zero w = omega arith
-blank-low (suc n) zero = omega arith
-blank-low (suc n) (suc w) = blank-low n w
-
-pick-and : (a b : Bool) → pick a b false ≡ (a && b)
-unfolding pick
-pick-and true b = refl
-pick-and false b = refl
 
 module _ (s : List ℕ) (paths names : ℕ) where
   -- each net above the counts of the one before

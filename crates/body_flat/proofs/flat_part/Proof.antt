@@ -1,81 +1,60 @@
-use Rattle.body_flat.specs.Flat.{flat-short, flat-high, flat-bad, flat-many, flat-all, flat-left}
+use Rattle.body_flat.specs.Flat.{flatNets}
+use Rattle.body.specs.Nets.{part-short, part-high, part-bad, part-many, part-all, part-left}
 use native.Mathlib.Omega.{arith}
 use borrow.Author.Needs.{needs}
 use Rattle.body_flat.proofs.flat_part.Statement.{statement}
 use Rattle.body_flat.proofs.flat_part.Tie as tie
-use Rattle.body_flat.proofs.flat_part.Reads as reads
-use Rattle.body_flat.proofs.flat_part.Lts as lts
-use Rattle.count_flat.proofs.nets_nodes.Reads as nets-nodes-reads
-use Rattle.fields.proofs.be16.Reads as be16-reads
-use Rattle.walk_flat.proofs.flat_nets.Reads as flat-nets-reads
 
--- src/lib.rt:15:9
 returns : tie.Need-returns
-returns c = flat-short _ _ _ _ (omega arith)
+returns c = part-short flatNets _ _ _ _ (omega arith)
 
--- src/lib.rt:17:8
 sub-if2 : tie.Need-sub-if2
 sub-if2 c = search needs
 
--- src/lib.rt:18:9
 returns-2 : tie.Need-returns-2
-returns-2 c = flat-short _ _ _ _ (omega arith)
+returns-2 c = part-short flatNets _ _ _ _ (omega arith)
 
--- src/lib.rt:20:9
 be16-requires : tie.Need-be16-requires
 be16-requires c κs = search needs
 
--- src/lib.rt:22:9
 returns-3 : tie.Need-returns-3
-returns-3 c = search flat-high
+returns-3 c = search (part-high flatNets)
 
--- src/lib.rt:24:37
 add-flat-nets : tie.Need-add-flat-nets
 add-flat-nets c = search needs
 
--- src/lib.rt:24:45
 cast-flat-nets : tie.Need-cast-flat-nets
 cast-flat-nets c = search needs
 
--- src/lib.rt:24:9
 flat-nets-requires : tie.Need-flat-nets-requires
 flat-nets-requires c κs = search needs
 
--- src/lib.rt:25:20
 enum-known-w : tie.Need-enum-known-w
 enum-known-w c = search needs
 
--- src/lib.rt:26:9
 enum-told : tie.Need-enum-told
 enum-told c = search needs
 
--- src/lib.rt:26:9
 returns-4 : tie.Need-returns-4
-returns-4 c = search flat-bad
+returns-4 c = search (part-bad flatNets)
 
--- src/lib.rt:28:41
 add-nets-nodes : tie.Need-add-nets-nodes
 add-nets-nodes c = search needs
 
--- src/lib.rt:28:49
 cast-nets-nodes : tie.Need-cast-nets-nodes
 cast-nets-nodes c = search needs
 
--- src/lib.rt:28:15
 nets-nodes-requires : tie.Need-nets-nodes-requires
 nets-nodes-requires c κs = search needs
 
--- src/lib.rt:29:9
 returns-5 : tie.Need-returns-5
-returns-5 c = search flat-many
+returns-5 c = search (part-many flatNets)
 
--- src/lib.rt:32:9
 returns-6 : tie.Need-returns-6
-returns-6 c = search flat-all
+returns-6 c = search (part-all flatNets)
 
--- src/lib.rt:11:1
 returns-7 : tie.Need-returns-7
-returns-7 c = search flat-left
+returns-7 c = search (part-left flatNets)
 
 pub flat-part-spec : {M : Type 1} → statement M
 flat-part-spec =

@@ -2,49 +2,34 @@ use Rattle.body.specs.Body.{body-on, body-bad}
 use borrow.Author.Needs.{needs}
 use Rattle.body_tree.proofs.tree_body.Statement.{statement}
 use Rattle.body_tree.proofs.tree_body.Tie as tie
-use Rattle.body_tree.proofs.tree_body.Reads as reads
-use Rattle.body_tree.proofs.tree_body.Lts as lts
-use Rattle.body_tree.proofs.tree_part.Reads as tree-part-reads
-use Rattle.fields.proofs.be16.Reads as be16-reads
-use Rattle.tables.proofs.tables.Reads as tables-reads
 
--- src/lib.rt:40:9
 tables-requires : tie.Need-tables-requires
 tables-requires c κs = search needs
 
--- src/lib.rt:42:19
 enum-known-t : tie.Need-enum-known-t
 enum-known-t c = search needs
 
--- src/lib.rt:43:17
 be16-requires : tie.Need-be16-requires
 be16-requires c κs = search needs
 
--- src/lib.rt:44:17
 be16-requires-2 : tie.Need-be16-requires-2
 be16-requires-2 c κs = search needs
 
--- src/lib.rt:45:29
 cast-tree-part : tie.Need-cast-tree-part
 cast-tree-part c = search needs
 
--- src/lib.rt:45:40
 cast-tree-part-2 : tie.Need-cast-tree-part-2
 cast-tree-part-2 c = search needs
 
--- src/lib.rt:45:13
 tree-part-requires : tie.Need-tree-part-requires
 tree-part-requires c κs = search needs
 
--- src/lib.rt:47:23
 enum-told : tie.Need-enum-told
 enum-told c = search needs
 
--- src/lib.rt:37:1
 returns : tie.Need-returns
 returns c = search body-on
 
--- src/lib.rt:37:1
 returns-2 : tie.Need-returns-2
 returns-2 c = search body-bad
 

@@ -3,45 +3,33 @@ use native.Mathlib.Omega.{arith}
 use borrow.Author.Needs.{needs}
 use Rattle.ends.proofs.list_end.Statement.{statement}
 use Rattle.ends.proofs.list_end.Tie as tie
-use Rattle.ends.proofs.list_end.Reads as reads
-use Rattle.ends.proofs.list_end.Lts as lts
-use Rattle.fields.proofs.byte.Reads as byte-reads
 
--- src/lib.rt:12:9
 returns : tie.Need-returns
 unfolding listEnd
 returns c = omega arith
 
--- src/lib.rt:14:18
 byte-requires : tie.Need-byte-requires
 byte-requires c κs = search needs
 
--- src/lib.rt:14:18
 cast-k : tie.Need-cast-k
 cast-k c = search needs
 
--- src/lib.rt:14:13
 mul-k : tie.Need-mul-k
 mul-k c = search needs
 
--- src/lib.rt:15:8
 sub-if2 : tie.Need-sub-if2
 sub-if2 c = search needs
 
--- src/lib.rt:16:9
 returns-2 : tie.Need-returns-2
 unfolding listEnd
 returns-2 c = omega arith
 
--- src/lib.rt:18:5
 add-result : tie.Need-add-result
 add-result c = search needs
 
--- src/lib.rt:18:5
 add-result-2 : tie.Need-add-result-2
 add-result-2 c = search needs
 
--- src/lib.rt:7:1
 returns-3 : tie.Need-returns-3
 unfolding listEnd
 returns-3 c = omega arith

@@ -6,9 +6,6 @@ use borrow.Author.Needs.{needs}
 use native.Mathlib.Omega.{arith}
 use Rattle.ends.proofs.nodes_end.Statement.{statement}
 use Rattle.ends.proofs.nodes_end.Tie as tie
-use Rattle.ends.proofs.nodes_end.Reads as reads
-use Rattle.ends.proofs.nodes_end.Lts as lts
-use Rattle.ends.proofs.node_end.Reads as node-end-reads
 
 abbrev Inv-loop : tie.InvT-loop
 Inv-loop s from n at₀ k₀ at k = within s (tableEnd (nodeEnd s) at k) ≡ within s (tableEnd (nodeEnd s) from n)
@@ -16,31 +13,24 @@ Inv-loop s from n at₀ k₀ at k = within s (tableEnd (nodeEnd s) at k) ≡ wit
 abbrev μ-loop : tie.MeasureT-loop
 μ-loop s from n at₀ k₀ at k = k
 
--- src/lib.rt:68:5
 loop-holds : tie.Need-loop-holds Inv-loop μ-loop
 loop-holds c = search needs
 
--- src/lib.rt:69:9
 node-end-requires : tie.Need-node-end-requires Inv-loop μ-loop
 node-end-requires c κs = search needs
 
--- src/lib.rt:70:9
 sub-k : tie.Need-sub-k Inv-loop μ-loop
 sub-k c = omega arith
 
--- src/lib.rt:68:5
 loop-less : tie.Need-loop-less Inv-loop μ-loop
 loop-less c = omega arith
 
--- src/lib.rt:68:5
 loop-again : tie.Need-loop-again Inv-loop μ-loop
 loop-again c = search nodes-more
 
--- src/lib.rt:73:9
 returns : tie.Need-returns Inv-loop μ-loop
 returns c = search nodes-out
 
--- src/lib.rt:63:1
 returns-2 : tie.Need-returns-2 Inv-loop μ-loop
 returns-2 c = search nodes-in
 

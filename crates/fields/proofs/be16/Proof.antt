@@ -3,64 +3,46 @@ use native.Mathlib.Omega.{arith}
 use borrow.Author.Needs.{needs}
 use Rattle.fields.proofs.be16.Statement.{statement}
 use Rattle.fields.proofs.be16.Tie as tie
-use Rattle.fields.proofs.be16.Reads as reads
-use Rattle.fields.proofs.be16.Lts as lts
-use Rattle.fields.proofs.byte.Reads as byte-reads
-use Rattle.fields.proofs.wide16.Reads as wide16-reads
 
--- src/lib.rt:29:9
 returns : tie.Need-returns
 returns c = rw (be16-past, c .if1 .taken)
 
--- src/lib.rt:31:8
 sub-if2 : tie.Need-sub-if2
 sub-if2 c = search needs
 
--- src/lib.rt:32:23
 byte-requires : tie.Need-byte-requires
 byte-requires c κs = search needs
 
--- src/lib.rt:32:23
 cast-result : tie.Need-cast-result
 cast-result c = search needs
 
--- src/lib.rt:32:16
 mul-result : tie.Need-mul-result
 mul-result c = search needs
 
--- src/lib.rt:32:9
 returns-2 : tie.Need-returns-2
 returns-2 c = search be16-end
 
--- src/lib.rt:34:18
 shared-slice-read-wide16 : tie.Need-shared-slice-read-wide16
 shared-slice-read-wide16 c = search needs
 
--- src/lib.rt:34:11
 wide16-requires : tie.Need-wide16-requires
 wide16-requires c κs = search needs
 
--- src/lib.rt:34:5
 mul-result-2 : tie.Need-mul-result-2
 mul-result-2 c = search needs
 
--- src/lib.rt:34:36
 add-wide16 : tie.Need-add-wide16
 add-wide16 c = search needs
 
--- src/lib.rt:34:34
 shared-slice-read-wide16-2 : tie.Need-shared-slice-read-wide16-2
 shared-slice-read-wide16-2 c = search needs
 
--- src/lib.rt:34:27
 wide16-requires-2 : tie.Need-wide16-requires-2
 wide16-requires-2 c κs = search needs
 
--- src/lib.rt:34:5
 add-result : tie.Need-add-result
 add-result c = search needs
 
--- src/lib.rt:24:1
 returns-3 : tie.Need-returns-3
 returns-3 c = search needs
 

@@ -4,63 +4,46 @@ use native.Mathlib.Omega.{arith}
 use borrow.Author.Needs.{needs}
 use Rattle.fields.proofs.be32_short.Statement.{statement}
 use Rattle.fields.proofs.be32_short.Tie as tie
-use Rattle.fields.proofs.be32_short.Reads as reads
-use Rattle.fields.proofs.be32_short.Lts as lts
-use Rattle.fields.proofs.be16.Reads as be16-reads
 
--- src/lib.rt:56:9
 returns : tie.Need-returns
 returns c = rw (be32-past, c .if1 .taken)
 
--- src/lib.rt:58:8
 sub-if2 : tie.Need-sub-if2
 sub-if2 c = search needs
 
--- src/lib.rt:59:25
 be16-requires : tie.Need-be16-requires
 be16-requires c κs = search needs
 
--- src/lib.rt:59:25
 cast-result : tie.Need-cast-result
 cast-result c = search needs
 
--- src/lib.rt:59:16
 mul-result : tie.Need-mul-result
 mul-result c = search needs
 
--- src/lib.rt:59:9
 returns-2 : tie.Need-returns-2
 returns-2 c = search be32-end
 
--- src/lib.rt:61:14
 be16-requires-2 : tie.Need-be16-requires-2
 be16-requires-2 c κs = search needs
 
--- src/lib.rt:61:14
 cast-result-2 : tie.Need-cast-result-2
 cast-result-2 c = search needs
 
--- src/lib.rt:61:5
 mul-result-2 : tie.Need-mul-result-2
 mul-result-2 c = search needs
 
--- src/lib.rt:61:44
 add-be16 : tie.Need-add-be16
 add-be16 c = search needs
 
--- src/lib.rt:61:36
 be16-requires-3 : tie.Need-be16-requires-3
 be16-requires-3 c κs = search needs
 
--- src/lib.rt:61:36
 cast-result-3 : tie.Need-cast-result-3
 cast-result-3 c = search needs
 
--- src/lib.rt:61:5
 add-result : tie.Need-add-result
 add-result c = search needs
 
--- src/lib.rt:51:1
 returns-3 : tie.Need-returns-3
 returns-3 c = search be32-halves
 

@@ -3,63 +3,46 @@ use native.Mathlib.Omega.{arith}
 use borrow.Author.Needs.{needs}
 use Rattle.fields.proofs.be64.Statement.{statement}
 use Rattle.fields.proofs.be64.Tie as tie
-use Rattle.fields.proofs.be64.Reads as reads
-use Rattle.fields.proofs.be64.Lts as lts
-use Rattle.fields.proofs.be32.Reads as be32-reads
 
--- src/lib.rt:70:9
 returns : tie.Need-returns
 returns c = rw (be64-past, c .if1 .taken)
 
--- src/lib.rt:72:8
 sub-if2 : tie.Need-sub-if2
 sub-if2 c = search needs
 
--- src/lib.rt:73:30
 be32-requires : tie.Need-be32-requires
 be32-requires c κs = search needs
 
--- src/lib.rt:73:30
 cast-result : tie.Need-cast-result
 cast-result c = search needs
 
--- src/lib.rt:73:16
 mul-result : tie.Need-mul-result
 mul-result c = search needs
 
--- src/lib.rt:73:9
 returns-2 : tie.Need-returns-2
 returns-2 c = search be64-end
 
--- src/lib.rt:75:19
 be32-requires-2 : tie.Need-be32-requires-2
 be32-requires-2 c κs = search needs
 
--- src/lib.rt:75:19
 cast-result-2 : tie.Need-cast-result-2
 cast-result-2 c = search needs
 
--- src/lib.rt:75:5
 mul-result-2 : tie.Need-mul-result-2
 mul-result-2 c = search needs
 
--- src/lib.rt:75:49
 add-be32 : tie.Need-add-be32
 add-be32 c = search needs
 
--- src/lib.rt:75:41
 be32-requires-3 : tie.Need-be32-requires-3
 be32-requires-3 c κs = search needs
 
--- src/lib.rt:75:41
 cast-result-3 : tie.Need-cast-result-3
 cast-result-3 c = search needs
 
--- src/lib.rt:75:5
 add-result : tie.Need-add-result
 add-result c = search needs
 
--- src/lib.rt:65:1
 returns-3 : tie.Need-returns-3
 returns-3 c = search needs
 

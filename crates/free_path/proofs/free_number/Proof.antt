@@ -6,10 +6,6 @@ use borrow.Author.Needs.{needs}
 use native.Mathlib.Omega.{arith}
 use Rattle.free_path.proofs.free_number.Statement.{statement}
 use Rattle.free_path.proofs.free_number.Tie as tie
-use Rattle.free_path.proofs.free_number.Reads as reads
-use Rattle.free_path.proofs.free_number.Lts as lts
-use Rattle.ends.proofs.path_end.Reads as path-end-reads
-use Rattle.free_path.proofs.is_free.Reads as is-free-reads
 
 abbrev Inv-loop : tie.InvT-loop
 Inv-loop s from n at₀ k₀ at k = (n - k + freeNumber s at k ≡ freeNumber s from n) × (k ≤ n)
@@ -17,39 +13,30 @@ Inv-loop s from n at₀ k₀ at k = (n - k + freeNumber s at k ≡ freeNumber s 
 abbrev μ-loop : tie.MeasureT-loop
 μ-loop s from n at₀ k₀ at k = k
 
--- src/lib.rt:70:5
 loop-holds : tie.Need-loop-holds Inv-loop μ-loop
 loop-holds c = omega arith
 
--- src/lib.rt:71:12
 is-free-requires : tie.Need-is-free-requires Inv-loop μ-loop
 is-free-requires c κs = search needs
 
--- src/lib.rt:72:20
 sub-result : tie.Need-sub-result Inv-loop μ-loop
 sub-result c = omega arith
 
--- src/lib.rt:72:13
 returns : tie.Need-returns Inv-loop μ-loop
 returns c = search number-found
 
--- src/lib.rt:74:9
 path-end-requires : tie.Need-path-end-requires Inv-loop μ-loop
 path-end-requires c κs = search needs
 
--- src/lib.rt:75:9
 sub-k : tie.Need-sub-k Inv-loop μ-loop
 sub-k c = omega arith
 
--- src/lib.rt:70:5
 loop-less : tie.Need-loop-less Inv-loop μ-loop
 loop-less c = omega arith
 
--- src/lib.rt:70:5
 loop-again : tie.Need-loop-again Inv-loop μ-loop
 loop-again c = (search number-more, omega arith)
 
--- src/lib.rt:65:1
 returns-2 : tie.Need-returns-2 Inv-loop μ-loop
 returns-2 c = search number-done
 

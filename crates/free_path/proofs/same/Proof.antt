@@ -9,10 +9,6 @@ use borrow.Author.Needs.{needs}
 use native.Mathlib.Omega.{arith}
 use Rattle.free_path.proofs.same.Statement.{statement}
 use Rattle.free_path.proofs.same.Tie as tie
-use Rattle.free_path.proofs.same.Reads as reads
-use Rattle.free_path.proofs.same.Lts as lts
-use Rattle.ends.proofs.on.Reads as on-reads
-use Rattle.fields.proofs.byte.Reads as byte-reads
 
 abbrev Inv-loop : tie.InvT-loop
 Inv-loop s from t at₀ i₀ at i = (sameFrom s at t i ≡ eqs t (bytesAt s from (length t))) × (i ≤ length t)
@@ -20,39 +16,30 @@ Inv-loop s from t at₀ i₀ at i = (sameFrom s at t i ≡ eqs t (bytesAt s from
 abbrev μ-loop : tie.MeasureT-loop
 μ-loop s from t at₀ i₀ at i = length t - i
 
--- src/lib.rt:15:5
 loop-holds : tie.Need-loop-holds Inv-loop μ-loop
 loop-holds c = (same-start _ _ _, omega arith)
 
--- src/lib.rt:16:13
 byte-requires : tie.Need-byte-requires Inv-loop μ-loop
 byte-requires c κs = search needs
 
--- src/lib.rt:17:17
 shared-slice-read-b : tie.Need-shared-slice-read-b Inv-loop μ-loop
 shared-slice-read-b c = omega arith
 
--- src/lib.rt:19:13
 returns : tie.Need-returns Inv-loop μ-loop
 returns c = search same-no
 
--- src/lib.rt:21:9
 on-requires : tie.Need-on-requires Inv-loop μ-loop
 on-requires c κs = search needs
 
--- src/lib.rt:22:9
 add-i : tie.Need-add-i Inv-loop μ-loop
 add-i c = omega arith
 
--- src/lib.rt:15:5
 loop-less : tie.Need-loop-less Inv-loop μ-loop
 loop-less c = omega arith
 
--- src/lib.rt:15:5
 loop-again : tie.Need-loop-again Inv-loop μ-loop
 loop-again c = (search same-more, omega arith)
 
--- src/lib.rt:10:1
 returns-2 : tie.Need-returns-2 Inv-loop μ-loop
 returns-2 c = search same-done
 

@@ -4,57 +4,41 @@ use native.Mathlib.Omega.{arith}
 use borrow.Author.Needs.{needs}
 use Rattle.head.proofs.head.Statement.{statement}
 use Rattle.head.proofs.head.Tie as tie
-use Rattle.head.proofs.head.Reads as reads
-use Rattle.head.proofs.head.Lts as lts
-use Rattle.fields.proofs.be32.Reads as be32-reads
-use Rattle.fields.proofs.byte.Reads as byte-reads
-use Rattle.head.proofs.limit.Reads as limit-reads
 
--- src/lib.rt:11:9
 returns : tie.Need-returns
 unfolding headOf
 returns c = lt-yes _ _ _ _ (omega arith) (cc)
 
--- src/lib.rt:13:8
 be32-requires : tie.Need-be32-requires
 be32-requires c κs = search needs
 
--- src/lib.rt:13:8
 cast-if2 : tie.Need-cast-if2
 cast-if2 c = search needs
 
--- src/lib.rt:13:38
 sub-if2 : tie.Need-sub-if2
 sub-if2 c = search needs
 
--- src/lib.rt:14:9
 returns-2 : tie.Need-returns-2
 unfolding headOf
 returns-2 c = lt-no _ _ _ _ (omega arith) (eq-no _ _ _ _ (omega arith) (cc))
 
--- src/lib.rt:16:8
 byte-requires : tie.Need-byte-requires
 byte-requires c κs = search needs
 
--- src/lib.rt:17:9
 returns-3 : tie.Need-returns-3
 unfolding headOf
 returns-3 c = lt-no _ _ _ _ (omega arith) (eq-yes _ _ _ _ (omega arith) (eq-no _ _ _ _ (omega arith) (cc)))
 
--- src/lib.rt:20:9
 returns-4 : tie.Need-returns-4
 unfolding headOf
 returns-4 c = lt-no _ _ _ _ (omega arith) (eq-yes _ _ _ _ (omega arith) (eq-yes _ _ _ _ (omega arith) (lt-yes _ _ _ _ (omega arith) (cc))))
 
--- src/lib.rt:22:11
 be32-requires-2 : tie.Need-be32-requires-2
 be32-requires-2 c κs = search needs
 
--- src/lib.rt:22:5
 limit-requires : tie.Need-limit-requires
 limit-requires c κs = search needs
 
--- src/lib.rt:6:1
 returns-5 : tie.Need-returns-5
 unfolding headOf
 returns-5 c = lt-no _ _ _ _ (omega arith) (eq-yes _ _ _ _ (omega arith) (eq-yes _ _ _ _ (omega arith) (lt-no _ _ _ _ (omega arith) (cc))))

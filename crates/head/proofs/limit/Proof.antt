@@ -3,20 +3,15 @@ use Rattle.words.specs.Choose.{lt-yes, lt-no, eq-yes, eq-no}
 use native.Mathlib.Omega.{arith}
 use Rattle.head.proofs.limit.Statement.{statement}
 use Rattle.head.proofs.limit.Tie as tie
-use Rattle.head.proofs.limit.Reads as reads
-use Rattle.head.proofs.limit.Lts as lts
 
--- src/lib.rt:30:9
 returns : tie.Need-returns
 unfolding limitHead
 returns c = eq-yes _ _ _ _ (omega arith) (cc)
 
--- src/lib.rt:33:9
 returns-2 : tie.Need-returns-2
 unfolding limitHead
 returns-2 c = eq-no _ _ _ _ (omega arith) (lt-yes _ _ _ _ (omega arith) (cc))
 
--- src/lib.rt:26:1
 returns-3 : tie.Need-returns-3
 unfolding limitHead
 returns-3 c = eq-no _ _ _ _ (omega arith) (lt-no _ _ _ _ (omega arith) (cc))

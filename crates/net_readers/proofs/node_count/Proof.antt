@@ -2,20 +2,13 @@ use Rattle.readers.specs.Places.{be16-clamped}
 use borrow.Author.Needs.{needs}
 use Rattle.net_readers.proofs.node_count.Statement.{statement}
 use Rattle.net_readers.proofs.node_count.Tie as tie
-use Rattle.net_readers.proofs.node_count.Reads as reads
-use Rattle.net_readers.proofs.node_count.Lts as lts
-use Rattle.ends.proofs.node_count_at.Reads as node-count-at-reads
-use Rattle.fields.proofs.be16.Reads as be16-reads
 
--- src/lib.rt:60:21
 node-count-at-requires : tie.Need-node-count-at-requires
 node-count-at-requires c κs = search needs
 
--- src/lib.rt:60:5
 be16-requires : tie.Need-be16-requires
 be16-requires c κs = search needs
 
--- src/lib.rt:57:1
 returns : tie.Need-returns
 returns c = search be16-clamped
 

@@ -2,24 +2,16 @@ use Rattle.readers.specs.Places.{be16-clamped}
 use borrow.Author.Needs.{needs}
 use Rattle.net_readers.proofs.node_principal.Statement.{statement}
 use Rattle.net_readers.proofs.node_principal.Tie as tie
-use Rattle.net_readers.proofs.node_principal.Reads as reads
-use Rattle.net_readers.proofs.node_principal.Lts as lts
-use Rattle.ends.proofs.name_end.Reads as name-end-reads
-use Rattle.fields.proofs.be16.Reads as be16-reads
 
--- src/lib.rt:90:26
 name-end-requires : tie.Need-name-end-requires
 name-end-requires c κs = search needs
 
--- src/lib.rt:90:10
 be16-requires : tie.Need-be16-requires
 be16-requires c κs = search needs
 
--- src/lib.rt:90:10
 cast-t5 : tie.Need-cast-t5
 cast-t5 c = search needs
 
--- src/lib.rt:87:1
 returns : tie.Need-returns
 returns c = search be16-clamped
 

@@ -2,19 +2,13 @@ use Rattle.orders.specs.Steps.{name-is}
 use borrow.Author.Needs.{needs}
 use Rattle.orders.proofs.name_fits.Statement.{statement}
 use Rattle.orders.proofs.name_fits.Tie as tie
-use Rattle.orders.proofs.name_fits.Reads as reads
-use Rattle.orders.proofs.name_fits.Lts as lts
-use Rattle.fields.proofs.be16.Reads as be16-reads
 
--- src/lib.rt:88:9
 be16-requires : tie.Need-be16-requires
 be16-requires c κs = search needs
 
--- src/lib.rt:89:13
 cast-result : tie.Need-cast-result
 cast-result c = search needs
 
--- src/lib.rt:85:1
 returns : tie.Need-returns
 returns c = name-is _ _ _ _ (c .be16 .ensures)
 

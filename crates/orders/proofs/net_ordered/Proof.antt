@@ -4,28 +4,19 @@ use Rattle.words.specs.Left.{left}
 use borrow.Author.Needs.{needs}
 use Rattle.orders.proofs.net_ordered.Statement.{statement}
 use Rattle.orders.proofs.net_ordered.Tie as tie
-use Rattle.orders.proofs.net_ordered.Reads as reads
-use Rattle.orders.proofs.net_ordered.Lts as lts
-use Rattle.orders.proofs.name_fits.Reads as name-fits-reads
-use Rattle.orders.proofs.net_pairs.Reads as net-pairs-reads
 
--- src/lib.rt:96:8
 name-fits-requires : tie.Need-name-fits-requires
 name-fits-requires c κs = search needs
 
--- src/lib.rt:97:9
 net-pairs-requires : tie.Need-net-pairs-requires
 net-pairs-requires c κs = search needs
 
--- src/lib.rt:97:9
 same-length : tie.Need-same-length
 same-length c = search needs
 
--- src/lib.rt:97:9
 returns : tie.Need-returns
 returns c = left {x = netOrdered _ _ _ _ _} (search name-yes)
 
--- src/lib.rt:93:1
 returns-2 : tie.Need-returns-2
 returns-2 c = left {x = netOrdered _ _ _ _ _} (search name-no)
 

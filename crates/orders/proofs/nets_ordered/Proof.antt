@@ -7,11 +7,6 @@ use native.Mathlib.Omega.{arith}
 use borrow.Author.Needs.{needs}
 use Rattle.orders.proofs.nets_ordered.Statement.{statement}
 use Rattle.orders.proofs.nets_ordered.Tie as tie
-use Rattle.orders.proofs.nets_ordered.Reads as reads
-use Rattle.orders.proofs.nets_ordered.Lts as lts
-use Rattle.ends.proofs.flat_net_end.Reads as flat-net-end-reads
-use Rattle.fields.proofs.be16.Reads as be16-reads
-use Rattle.orders.proofs.net_ordered.Reads as net-ordered-reads
 
 abbrev Inv-loop : tie.InvT-loop
 Inv-loop s from n counts₀ at₀ base₀ last₀ k₀ counts at base last k = (netsFrom counts base last s at k ≡ netsOrdered s from n) × (length counts ≡ 65536) × (base + 4 * k ≤ 1024)
@@ -19,59 +14,45 @@ Inv-loop s from n counts₀ at₀ base₀ last₀ k₀ counts at base last k = (
 abbrev μ-loop : tie.MeasureT-loop
 μ-loop s from n counts₀ at₀ base₀ last₀ k₀ counts at base last k = k
 
--- src/lib.rt:100:9
 returns : tie.Need-returns Inv-loop μ-loop
 returns c = nets-over _ _ _ (c .if1 .taken)
 
--- src/lib.rt:107:5
 loop-holds : tie.Need-loop-holds Inv-loop μ-loop
 loop-holds c = (nets-start _ _ _ (omega arith), search needs, omega arith)
 
--- src/lib.rt:108:24
 slice-aggregate-net-ordered : tie.Need-slice-aggregate-net-ordered Inv-loop μ-loop
 slice-aggregate-net-ordered c = search needs
 
--- src/lib.rt:108:12
 net-ordered-requires : tie.Need-net-ordered-requires Inv-loop μ-loop
 net-ordered-requires c κs = search needs
 
--- src/lib.rt:109:20
 be16-requires : tie.Need-be16-requires Inv-loop μ-loop
 be16-requires c κs = search needs
 
--- src/lib.rt:109:20
 cast-last : tie.Need-cast-last Inv-loop μ-loop
 cast-last c = omega arith
 
--- src/lib.rt:109:20
 add-last : tie.Need-add-last Inv-loop μ-loop
 add-last c = omega arith
 
--- src/lib.rt:110:13
 flat-net-end-requires : tie.Need-flat-net-end-requires Inv-loop μ-loop
 flat-net-end-requires c κs = search needs
 
--- src/lib.rt:111:13
 add-base : tie.Need-add-base Inv-loop μ-loop
 add-base c = omega arith
 
--- src/lib.rt:112:13
 sub-k : tie.Need-sub-k Inv-loop μ-loop
 sub-k c = omega arith
 
--- src/lib.rt:107:5
 loop-less : tie.Need-loop-less Inv-loop μ-loop
 loop-less c = omega arith
 
--- src/lib.rt:107:5
 loop-again : tie.Need-loop-again Inv-loop μ-loop
 loop-again c = (search nets-more, omega arith, omega arith)
 
--- src/lib.rt:114:13
 returns-2 : tie.Need-returns-2 Inv-loop μ-loop
 returns-2 c = search nets-no
 
--- src/lib.rt:96:1
 returns-3 : tie.Need-returns-3 Inv-loop μ-loop
 returns-3 c = search nets-done
 

@@ -5,39 +5,29 @@ use native.Mathlib.Omega.{arith}
 use borrow.Author.Needs.{needs}
 use Rattle.orders.proofs.pair_fits.Statement.{statement}
 use Rattle.orders.proofs.pair_fits.Tie as tie
-use Rattle.orders.proofs.pair_fits.Reads as reads
-use Rattle.orders.proofs.pair_fits.Lts as lts
-use Rattle.orders.proofs.marked.Reads as marked-reads
 
--- src/lib.rt:21:9
 returns : tie.Need-returns
 unfolding pairFits
 returns c = lt-yes _ _ _ _ (omega arith) refl
 
--- src/lib.rt:24:9
 returns-2 : tie.Need-returns-2
 unfolding pairFits
 returns-2 c = lt-no _ _ _ _ (omega arith) (lt-no _ _ _ _ (omega arith) refl)
 
--- src/lib.rt:26:8
 marked-requires : tie.Need-marked-requires
 marked-requires c κs = search needs
 
--- src/lib.rt:27:9
 returns-3 : tie.Need-returns-3
 unfolding pairFits
 returns-3 c = lt-no _ _ _ _ (omega arith) (lt-yes _ _ _ _ (omega arith) (pick-true _ _ _ (cc) refl))
 
--- src/lib.rt:29:8
 marked-requires-2 : tie.Need-marked-requires-2
 marked-requires-2 c κs = search needs
 
--- src/lib.rt:30:9
 returns-4 : tie.Need-returns-4
 unfolding pairFits
 returns-4 c = lt-no _ _ _ _ (omega arith) (lt-yes _ _ _ _ (omega arith) (pick-false _ _ _ (cc) (pick-true _ _ _ (cc) refl)))
 
--- src/lib.rt:17:1
 returns-5 : tie.Need-returns-5
 unfolding pairFits
 returns-5 c = lt-no _ _ _ _ (omega arith) (lt-yes _ _ _ _ (omega arith) (pick-false _ _ _ (cc) (pick-false _ _ _ (cc) refl)))

@@ -4,36 +4,25 @@ use Rattle.words.specs.Left.{left}
 use borrow.Author.Needs.{needs}
 use Rattle.orders.proofs.pair_step.Statement.{statement}
 use Rattle.orders.proofs.pair_step.Tie as tie
-use Rattle.orders.proofs.pair_step.Reads as reads
-use Rattle.orders.proofs.pair_step.Lts as lts
-use Rattle.orders.proofs.pair_fits.Reads as pair-fits-reads
-use Rattle.tally.proofs.bump.Reads as bump-reads
 
--- src/lib.rt:39:8
 pair-fits-requires : tie.Need-pair-fits-requires
 pair-fits-requires c κs = search needs
 
--- src/lib.rt:40:9
 bump-requires : tie.Need-bump-requires
 bump-requires c κs = search needs
 
--- src/lib.rt:41:9
 bump-requires-2 : tie.Need-bump-requires-2
 bump-requires-2 c κs = search needs
 
--- src/lib.rt:42:9
 same-length : tie.Need-same-length
 same-length c = search needs
 
--- src/lib.rt:42:9
 returns : tie.Need-returns
 returns c = left {x = pairStep _ _ _ _ _} (search step-yes)
 
--- src/lib.rt:36:1
 same-length-2 : tie.Need-same-length-2
 same-length-2 c = search needs
 
--- src/lib.rt:36:1
 returns-2 : tie.Need-returns-2
 returns-2 c = left {x = pairStep _ _ _ _ _} (search step-no)
 

@@ -10,10 +10,6 @@ use native.Mathlib.Omega.{arith}
 use borrow.Author.Needs.{needs}
 use Rattle.orders.proofs.pairs_run.Statement.{statement}
 use Rattle.orders.proofs.pairs_run.Tie as tie
-use Rattle.orders.proofs.pairs_run.Reads as reads
-use Rattle.orders.proofs.pairs_run.Lts as lts
-use Rattle.fields.proofs.be16.Reads as be16-reads
-use Rattle.orders.proofs.pair_step.Reads as pair-step-reads
 
 abbrev Inv-loop : tie.InvT-loop
 Inv-loop counts₀ base s from n at₀ last₀ k₀ counts at last k = (pairsFrom counts base last (pairsAt s at k) ≡ pairsFrom counts₀ base 0 (pairRun s from n)) × (length counts ≡ length counts₀) × (at + 4 * k ≤ length s)
@@ -21,75 +17,57 @@ Inv-loop counts₀ base s from n at₀ last₀ k₀ counts at last k = (pairsFro
 abbrev μ-loop : tie.MeasureT-loop
 μ-loop counts₀ base s from n at₀ last₀ k₀ counts at last k = k
 
--- src/lib.rt:52:9
 returns : tie.Need-returns Inv-loop μ-loop
 returns c = left {x = pairsFrom _ _ _ _} (search pairs-past)
 
--- src/lib.rt:54:9
 sub-if2 : tie.Need-sub-if2 Inv-loop μ-loop
 sub-if2 c = omega arith
 
--- src/lib.rt:55:9
 returns-2 : tie.Need-returns-2 Inv-loop μ-loop
 returns-2 c = left {x = pairsFrom _ _ _ _} (search pairs-short)
 
--- src/lib.rt:60:5
 loop-holds : tie.Need-loop-holds Inv-loop μ-loop
 loop-holds c = (search pairs-start, search needs, omega arith)
 
--- src/lib.rt:61:13
 be16-requires : tie.Need-be16-requires Inv-loop μ-loop
 be16-requires c κs = search needs
 
--- src/lib.rt:62:33
 add-be16 : tie.Need-add-be16 Inv-loop μ-loop
 add-be16 c = omega arith
 
--- src/lib.rt:62:13
 be16-requires-2 : tie.Need-be16-requires-2 Inv-loop μ-loop
 be16-requires-2 c κs = search needs
 
--- src/lib.rt:63:12
 pair-step-requires : tie.Need-pair-step-requires Inv-loop μ-loop
 pair-step-requires c κs = search needs
 
--- src/lib.rt:64:20
 cast-last : tie.Need-cast-last Inv-loop μ-loop
 cast-last c = omega arith
 
--- src/lib.rt:64:20
 add-last : tie.Need-add-last Inv-loop μ-loop
 add-last c = omega arith
 
--- src/lib.rt:65:13
 add-at : tie.Need-add-at Inv-loop μ-loop
 add-at c = omega arith
 
--- src/lib.rt:66:13
 sub-k : tie.Need-sub-k Inv-loop μ-loop
 sub-k c = omega arith
 
--- src/lib.rt:60:5
 loop-less : tie.Need-loop-less Inv-loop μ-loop
 loop-less c = omega arith
 
--- src/lib.rt:60:5
 loop-again : tie.Need-loop-again Inv-loop μ-loop
 loop-again c = let p = c .before .before .before in let l = p .before .before .before .before .before .loop in (pairs-more _ _ _ _ _ _ _ _ _ _ (l .k) (l .inv .0) (omega arith) (p .before .before .before .be16 .ensures) (p .before .before .be162 .ensures) (p .pair-step .ensures .0) (p .pair-step .ensures .1) (c .if3 .taken), omega arith, omega arith)
 
--- src/lib.rt:68:13
 same-length : tie.Need-same-length Inv-loop μ-loop
 same-length c = omega arith
 
--- src/lib.rt:68:13
 returns-3 : tie.Need-returns-3 Inv-loop μ-loop
 returns-3 c = let p = c .before .before .before in let l = p .before .before .before .before .before .loop in left {x = pairsFrom _ _ _ _} (pairs-no _ _ _ _ _ _ _ _ _ _ (l .k) (l .inv .0) (omega arith) (p .before .before .before .be16 .ensures) (p .before .before .be162 .ensures) (p .pair-step .ensures .0) (p .pair-step .ensures .1) (c .if3 .left))
 
--- src/lib.rt:48:1
 same-length-2 : tie.Need-same-length-2 Inv-loop μ-loop
 same-length-2 c = omega arith
 
--- src/lib.rt:48:1
 returns-4 : tie.Need-returns-4 Inv-loop μ-loop
 returns-4 c = left {x = pairsFrom _ _ _ _} (search pairs-done)
 

@@ -4,11 +4,6 @@ use native.Mathlib.Omega.{arith}
 use borrow.Author.Needs.{needs}
 use Rattle.orders_tree.proofs.names_ascend.Statement.{statement}
 use Rattle.orders_tree.proofs.names_ascend.Tie as tie
-use Rattle.orders_tree.proofs.names_ascend.Reads as reads
-use Rattle.orders_tree.proofs.names_ascend.Lts as lts
-use Rattle.fields.proofs.be16.Reads as be16-reads
-use Rattle.orders.proofs.name_fits.Reads as name-fits-reads
-use Rattle.scan_tree.proofs.count_net.Reads as count-net-reads
 
 abbrev Inv-loop : tie.InvT-loop
 Inv-loop s from n at₀ last₀ k₀ at last k = namesFrom last s at k ≡ namesFrom 0 s from n
@@ -16,47 +11,36 @@ Inv-loop s from n at₀ last₀ k₀ at last k = namesFrom last s at k ≡ names
 abbrev μ-loop : tie.MeasureT-loop
 μ-loop s from n at₀ last₀ k₀ at last k = k
 
--- src/lib.rt:12:5
 loop-holds : tie.Need-loop-holds Inv-loop μ-loop
 loop-holds c = cc
 
--- src/lib.rt:13:12
 name-fits-requires : tie.Need-name-fits-requires Inv-loop μ-loop
 name-fits-requires c κs = search needs
 
--- src/lib.rt:14:20
 be16-requires : tie.Need-be16-requires Inv-loop μ-loop
 be16-requires c κs = search needs
 
--- src/lib.rt:14:20
 cast-last : tie.Need-cast-last Inv-loop μ-loop
 cast-last c = omega arith
 
--- src/lib.rt:14:20
 add-last : tie.Need-add-last Inv-loop μ-loop
 add-last c = omega arith
 
--- src/lib.rt:15:17
 count-net-requires : tie.Need-count-net-requires Inv-loop μ-loop
 count-net-requires c κs = search needs
 
--- src/lib.rt:17:13
 sub-k : tie.Need-sub-k Inv-loop μ-loop
 sub-k c = omega arith
 
--- src/lib.rt:12:5
 loop-less : tie.Need-loop-less Inv-loop μ-loop
 loop-less c = omega arith
 
--- src/lib.rt:12:5
 loop-again : tie.Need-loop-again Inv-loop μ-loop
 loop-again c = search names-more
 
--- src/lib.rt:19:13
 returns : tie.Need-returns Inv-loop μ-loop
 returns c = search names-no
 
--- src/lib.rt:6:1
 returns-2 : tie.Need-returns-2 Inv-loop μ-loop
 returns-2 c = search names-done
 

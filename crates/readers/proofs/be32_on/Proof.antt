@@ -2,20 +2,13 @@ use Rattle.readers.specs.Places.{be32-clamped}
 use borrow.Author.Needs.{needs}
 use Rattle.readers.proofs.be32_on.Statement.{statement}
 use Rattle.readers.proofs.be32_on.Tie as tie
-use Rattle.readers.proofs.be32_on.Reads as reads
-use Rattle.readers.proofs.be32_on.Lts as lts
-use Rattle.ends.proofs.on.Reads as on-reads
-use Rattle.fields.proofs.be32.Reads as be32-reads
 
--- src/lib.rt:29:21
 on-requires : tie.Need-on-requires
 on-requires c κs = search needs
 
--- src/lib.rt:29:5
 be32-requires : tie.Need-be32-requires
 be32-requires c κs = search needs
 
--- src/lib.rt:26:1
 returns : tie.Need-returns
 returns c = search be32-clamped
 

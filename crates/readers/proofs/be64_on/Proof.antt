@@ -2,20 +2,13 @@ use Rattle.readers.specs.Places.{be64-clamped}
 use borrow.Author.Needs.{needs}
 use Rattle.readers.proofs.be64_on.Statement.{statement}
 use Rattle.readers.proofs.be64_on.Tie as tie
-use Rattle.readers.proofs.be64_on.Reads as reads
-use Rattle.readers.proofs.be64_on.Lts as lts
-use Rattle.ends.proofs.on.Reads as on-reads
-use Rattle.fields.proofs.be64.Reads as be64-reads
 
--- src/lib.rt:35:21
 on-requires : tie.Need-on-requires
 on-requires c κs = search needs
 
--- src/lib.rt:35:5
 be64-requires : tie.Need-be64-requires
 be64-requires c κs = search needs
 
--- src/lib.rt:32:1
 returns : tie.Need-returns
 returns c = search be64-clamped
 

@@ -2,84 +2,58 @@ use Rattle.readers.specs.Places.{path-is, name-is, rule-is, net-is, node
 use borrow.Author.Needs.{needs}
 use Rattle.readers.proofs.part_end.Statement.{statement}
 use Rattle.readers.proofs.part_end.Tie as tie
-use Rattle.readers.proofs.part_end.Reads as reads
-use Rattle.readers.proofs.part_end.Lts as lts
-use Rattle.ends.proofs.flat_net_end.Reads as flat-net-end-reads
-use Rattle.ends.proofs.list_end.Reads as list-end-reads
-use Rattle.ends.proofs.name_end.Reads as name-end-reads
-use Rattle.ends.proofs.node_end.Reads as node-end-reads
-use Rattle.ends.proofs.path_end.Reads as path-end-reads
-use Rattle.readers.proofs.rule_end.Reads as rule-end-reads
 
--- src/lib.rt:76:23
 enum-told : tie.Need-enum-told
 enum-told c = search needs
 
--- src/lib.rt:76:23
 path-end-requires : tie.Need-path-end-requires
 path-end-requires c κs = search needs
 
--- src/lib.rt:77:23
 enum-told-2 : tie.Need-enum-told-2
 enum-told-2 c = search needs
 
--- src/lib.rt:77:23
 name-end-requires : tie.Need-name-end-requires
 name-end-requires c κs = search needs
 
--- src/lib.rt:78:23
 enum-told-3 : tie.Need-enum-told-3
 enum-told-3 c = search needs
 
--- src/lib.rt:78:23
 rule-end-requires : tie.Need-rule-end-requires
 rule-end-requires c κs = search needs
 
--- src/lib.rt:79:22
 enum-told-4 : tie.Need-enum-told-4
 enum-told-4 c = search needs
 
--- src/lib.rt:79:22
 flat-net-end-requires : tie.Need-flat-net-end-requires
 flat-net-end-requires c κs = search needs
 
--- src/lib.rt:80:23
 enum-told-5 : tie.Need-enum-told-5
 enum-told-5 c = search needs
 
--- src/lib.rt:80:23
 node-end-requires : tie.Need-node-end-requires
 node-end-requires c κs = search needs
 
--- src/lib.rt:81:27
 enum-told-6 : tie.Need-enum-told-6
 enum-told-6 c = search needs
 
--- src/lib.rt:81:27
 list-end-requires : tie.Need-list-end-requires
 list-end-requires c κs = search needs
 
--- src/lib.rt:72:1
 returns : tie.Need-returns
 returns c = search path-is
 
--- src/lib.rt:72:1
 returns-2 : tie.Need-returns-2
 returns-2 c = search name-is
 
--- src/lib.rt:72:1
 returns-3 : tie.Need-returns-3
 returns-3 c = search rule-is
 
--- src/lib.rt:72:1
 returns-4 : tie.Need-returns-4
 returns-4 c = search net-is
 
--- src/lib.rt:72:1
 returns-5 : tie.Need-returns-5
 returns-5 c = search node-is
 
--- src/lib.rt:72:1
 returns-6 : tie.Need-returns-6
 returns-6 c = search list-is
 

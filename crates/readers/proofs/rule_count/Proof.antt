@@ -2,20 +2,13 @@ use Rattle.readers.specs.Places.{be16-clamped}
 use borrow.Author.Needs.{needs}
 use Rattle.readers.proofs.rule_count.Statement.{statement}
 use Rattle.readers.proofs.rule_count.Tie as tie
-use Rattle.readers.proofs.rule_count.Reads as reads
-use Rattle.readers.proofs.rule_count.Lts as lts
-use Rattle.fields.proofs.be16.Reads as be16-reads
-use Rattle.readers.proofs.rule_count_at.Reads as rule-count-at-reads
 
--- src/lib.rt:142:21
 rule-count-at-requires : tie.Need-rule-count-at-requires
 rule-count-at-requires c κs = search needs
 
--- src/lib.rt:142:5
 be16-requires : tie.Need-be16-requires
 be16-requires c κs = search needs
 
--- src/lib.rt:139:1
 returns : tie.Need-returns
 returns c = search be16-clamped
 

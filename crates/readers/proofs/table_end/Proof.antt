@@ -7,10 +7,6 @@ use Rattle.readers.specs.Readers.{partEnd}
 use Rattle.readers.specs.Places.{table-more, table-done}
 use Rattle.readers.proofs.table_end.Statement.{statement}
 use Rattle.readers.proofs.table_end.Tie as tie
-use Rattle.readers.proofs.table_end.Reads as reads
-use Rattle.readers.proofs.table_end.Lts as lts
-use Rattle.ends.proofs.on.Reads as on-reads
-use Rattle.readers.proofs.part_end.Reads as part-end-reads
 
 abbrev Inv-loop : tie.InvT-loop
 Inv-loop s part from n at₀ k₀ at k = within s (tableEnd (partEnd s part) at k) ≡ within s (tableEnd (partEnd s part) from n)
@@ -18,31 +14,24 @@ Inv-loop s part from n at₀ k₀ at k = within s (tableEnd (partEnd s part) at 
 abbrev μ-loop : tie.MeasureT-loop
 μ-loop s part from n at₀ k₀ at k = k
 
--- src/lib.rt:91:5
 loop-holds : tie.Need-loop-holds Inv-loop μ-loop
 loop-holds c = search needs
 
--- src/lib.rt:92:9
 part-end-requires : tie.Need-part-end-requires Inv-loop μ-loop
 part-end-requires c κs = search needs
 
--- src/lib.rt:93:9
 sub-k : tie.Need-sub-k Inv-loop μ-loop
 sub-k c = omega arith
 
--- src/lib.rt:91:5
 loop-less : tie.Need-loop-less Inv-loop μ-loop
 loop-less c = omega arith
 
--- src/lib.rt:91:5
 loop-again : tie.Need-loop-again Inv-loop μ-loop
 loop-again c = search table-more
 
--- src/lib.rt:95:5
 on-requires : tie.Need-on-requires Inv-loop μ-loop
 on-requires c κs = search needs
 
--- src/lib.rt:86:1
 returns : tie.Need-returns Inv-loop μ-loop
 returns c = search table-done
 

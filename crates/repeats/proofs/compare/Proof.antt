@@ -14,65 +14,51 @@ Inv-loop s a b n m x₀ y₀ left₀ x y left = (spec.compare-from s x y left �
 abbrev μ-loop : tie.MeasureT-loop
 μ-loop s a b n m x₀ y₀ left₀ x y left = left
 
--- src/lib.rt:57:9
 returns : tie.Need-returns Inv-loop μ-loop
 unfolding spec.compare
 returns c = lt-yes _ _ _ _ (omega arith) refl
 
--- src/lib.rt:60:9
 returns-2 : tie.Need-returns-2 Inv-loop μ-loop
 unfolding spec.compare
 returns-2 c = lt-yes _ _ _ _ (omega arith) refl
 
--- src/lib.rt:63:9
 returns-3 : tie.Need-returns-3 Inv-loop μ-loop
 unfolding spec.compare
 returns-3 c = lt-no _ _ _ _ (omega arith) (lt-yes _ _ _ _ (omega arith) refl)
 
--- src/lib.rt:68:5
 loop-holds : tie.Need-loop-holds Inv-loop μ-loop
 unfolding spec.compare
 loop-holds c = (lt-no _ _ _ _ (omega arith) (lt-no _ _ _ _ (omega arith) refl), omega arith, omega arith)
 
--- src/lib.rt:69:17
 shared-slice-read-p : tie.Need-shared-slice-read-p Inv-loop μ-loop
 shared-slice-read-p c = omega arith
 
--- src/lib.rt:70:17
 shared-slice-read-q : tie.Need-shared-slice-read-q Inv-loop μ-loop
 shared-slice-read-q c = omega arith
 
--- src/lib.rt:72:13
 returns-4 : tie.Need-returns-4 Inv-loop μ-loop
 returns-4 c = let l = c .before .before .before .before .loop in compare-less _ _ _ _ _ (l .inv .0) (omega arith) (c .if4 .taken)
 
--- src/lib.rt:75:13
 returns-5 : tie.Need-returns-5 Inv-loop μ-loop
 returns-5 c = let l = c .before .before .before .before .before .loop in compare-over _ _ _ _ _ (l .inv .0) (omega arith) (c .before .if4 .left) (c .if5 .taken)
 
--- src/lib.rt:77:9
 add-x : tie.Need-add-x Inv-loop μ-loop
 add-x c = omega arith
 
--- src/lib.rt:78:9
 add-y : tie.Need-add-y Inv-loop μ-loop
 add-y c = omega arith
 
--- src/lib.rt:79:9
 sub-left : tie.Need-sub-left Inv-loop μ-loop
 sub-left c = omega arith
 
--- src/lib.rt:68:5
 loop-less : tie.Need-loop-less Inv-loop μ-loop
 loop-less c = omega arith
 
--- src/lib.rt:68:5
 loop-again : tie.Need-loop-again Inv-loop μ-loop
 loop-again c =
     let l = c .before .before .before .before .before .loop in
     (compare-more _ _ _ _ _ (l .inv .0) (omega arith) (c .before .if4 .left) (c .if5 .left), omega arith, omega arith)
 
--- src/lib.rt:52:1
 returns-6 : tie.Need-returns-6 Inv-loop μ-loop
 returns-6 c = search compare-done
 

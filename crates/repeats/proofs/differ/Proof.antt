@@ -6,20 +6,16 @@ use borrow.Author.Needs.{needs}
 use Rattle.repeats.proofs.differ.Statement.{statement}
 use Rattle.repeats.proofs.differ.Tie as tie
 
--- src/lib.rt:186:9
 returns : tie.Need-returns
 unfolding spec.differ
 returns c = lt-yes _ _ _ _ (omega arith) refl
 
--- src/lib.rt:189:18
 slice-aggregate-differ-in : tie.Need-slice-aggregate-differ-in
 slice-aggregate-differ-in c = search needs
 
--- src/lib.rt:189:5
 differ-in-requires : tie.Need-differ-in-requires
 differ-in-requires c κs = search needs
 
--- src/lib.rt:182:1
 returns-2 : tie.Need-returns-2
 unfolding spec.differ
 returns-2 c = lt-no _ _ _ _ (omega arith) (cc)

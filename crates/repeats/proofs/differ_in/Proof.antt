@@ -14,71 +14,54 @@ Inv-loop s sorted₀ from n item at₀ m₀ k₀ sorted at m k = (spec.differ-in
 abbrev μ-loop : tie.MeasureT-loop
 μ-loop s sorted₀ from n item at₀ m₀ k₀ sorted at m k = k
 
--- src/lib.rt:161:5
 loop-holds : tie.Need-loop-holds Inv-loop μ-loop
 loop-holds c = (refl, refl, omega arith)
 
--- src/lib.rt:162:13
 item-size-requires : tie.Need-item-size-requires Inv-loop μ-loop
 item-size-requires c κs = search needs
 
--- src/lib.rt:164:13
 same-length : tie.Need-same-length Inv-loop μ-loop
 same-length c = omega arith
 
--- src/lib.rt:164:13
 returns : tie.Need-returns Inv-loop μ-loop
 returns c = search differ-short
 
--- src/lib.rt:166:12
 sub-if2 : tie.Need-sub-if2 Inv-loop μ-loop
 sub-if2 c = omega arith
 
--- src/lib.rt:167:13
 same-length-2 : tie.Need-same-length-2 Inv-loop μ-loop
 same-length-2 c = omega arith
 
--- src/lib.rt:167:13
 returns-2 : tie.Need-returns-2 Inv-loop μ-loop
 returns-2 c = search differ-past
 
--- src/lib.rt:169:13
 search-requires : tie.Need-search-requires Inv-loop μ-loop
 search-requires c κs = search needs
 
--- src/lib.rt:170:12
 known-requires : tie.Need-known-requires Inv-loop μ-loop
 known-requires c κs = search needs
 
--- src/lib.rt:171:13
 same-length-3 : tie.Need-same-length-3 Inv-loop μ-loop
 same-length-3 c = omega arith
 
--- src/lib.rt:171:13
 returns-3 : tie.Need-returns-3 Inv-loop μ-loop
 returns-3 c = search differ-known
 
--- src/lib.rt:173:9
 insert-requires : tie.Need-insert-requires Inv-loop μ-loop
 insert-requires c κs = search needs
 
--- src/lib.rt:174:9
 add-at : tie.Need-add-at Inv-loop μ-loop
 add-at c = omega arith
 
--- src/lib.rt:175:9
 add-m : tie.Need-add-m Inv-loop μ-loop
 add-m c = omega arith
 
--- src/lib.rt:176:9
 sub-k : tie.Need-sub-k Inv-loop μ-loop
 sub-k c = omega arith
 
--- src/lib.rt:161:5
 loop-less : tie.Need-loop-less Inv-loop μ-loop
 loop-less c = omega arith
 
--- src/lib.rt:161:5
 loop-again : tie.Need-loop-again Inv-loop μ-loop
 loop-again c =
     let a = c .before .before .before .before in
@@ -91,11 +74,9 @@ loop-again c =
       omega arith,
     )
 
--- src/lib.rt:155:1
 same-length-4 : tie.Need-same-length-4 Inv-loop μ-loop
 same-length-4 c = omega arith
 
--- src/lib.rt:155:1
 returns-4 : tie.Need-returns-4 Inv-loop μ-loop
 returns-4 c = search differ-done
 

@@ -15,73 +15,56 @@ Inv-loop sorted₀ m p at k₀ sorted k = (spec.shift sorted p k ≡ spec.shift 
 abbrev μ-loop : tie.MeasureT-loop
 μ-loop sorted₀ m p at k₀ sorted k = k
 
--- src/lib.rt:141:9
 returns : tie.Need-returns Inv-loop μ-loop
 unfolding spec.insert
 returns c = lt-no _ _ _ _ (omega arith) refl
 
--- src/lib.rt:144:9
 returns-2 : tie.Need-returns-2 Inv-loop μ-loop
 unfolding spec.insert
 returns-2 c = lt-yes _ _ _ _ (omega arith) (lt-yes _ _ _ _ (omega arith) refl)
 
--- src/lib.rt:147:5
 loop-holds : tie.Need-loop-holds Inv-loop μ-loop
 loop-holds c = (refl, refl, omega arith, omega arith)
 
--- src/lib.rt:148:32
 add-sorted : tie.Need-add-sorted Inv-loop μ-loop
 add-sorted c = omega arith
 
--- src/lib.rt:148:32
 sub-sorted : tie.Need-sub-sorted Inv-loop μ-loop
 sub-sorted c = omega arith
 
--- src/lib.rt:148:25
 mul-sorted : tie.Need-mul-sorted Inv-loop μ-loop
 mul-sorted c = omega arith
 
--- src/lib.rt:148:25
 slice-read-sorted : tie.Need-slice-read-sorted Inv-loop μ-loop
 slice-read-sorted c = omega arith
 
--- src/lib.rt:148:16
 add-sorted-2 : tie.Need-add-sorted-2 Inv-loop μ-loop
 add-sorted-2 c = omega arith
 
--- src/lib.rt:148:9
 mul-sorted-2 : tie.Need-mul-sorted-2 Inv-loop μ-loop
 mul-sorted-2 c = search needs
 
--- src/lib.rt:148:9
 slice-write-sorted : tie.Need-slice-write-sorted Inv-loop μ-loop
 slice-write-sorted c = omega arith
 
--- src/lib.rt:149:9
 sub-k : tie.Need-sub-k Inv-loop μ-loop
 sub-k c = omega arith
 
--- src/lib.rt:147:5
 loop-less : tie.Need-loop-less Inv-loop μ-loop
 loop-less c = omega arith
 
--- src/lib.rt:147:5
 loop-again : tie.Need-loop-again Inv-loop μ-loop
 loop-again c = (search shift-more, search needs, omega arith, omega arith)
 
--- src/lib.rt:151:5
 mul-sorted-3 : tie.Need-mul-sorted-3 Inv-loop μ-loop
 mul-sorted-3 c = search needs
 
--- src/lib.rt:151:5
 slice-write-sorted-2 : tie.Need-slice-write-sorted-2 Inv-loop μ-loop
 slice-write-sorted-2 c = omega arith
 
--- src/lib.rt:137:1
 same-length : tie.Need-same-length Inv-loop μ-loop
 same-length c = search needs
 
--- src/lib.rt:137:1
 returns-3 : tie.Need-returns-3 Inv-loop μ-loop
 returns-3 c = search shift-done
 

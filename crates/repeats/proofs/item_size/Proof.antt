@@ -3,35 +3,27 @@ use borrow.Author.Needs.{needs}
 use Rattle.repeats.proofs.item_size.Statement.{statement}
 use Rattle.repeats.proofs.item_size.Tie as tie
 
--- src/lib.rt:33:27
 enum-told : tie.Need-enum-told
 enum-told c = search needs
 
--- src/lib.rt:33:27
 byte-requires : tie.Need-byte-requires
 byte-requires c κs = search needs
 
--- src/lib.rt:33:27
 cast-result : tie.Need-cast-result
 cast-result c = search needs
 
--- src/lib.rt:33:23
 add-result : tie.Need-add-result
 add-result c = search needs
 
--- src/lib.rt:34:23
 enum-told-2 : tie.Need-enum-told-2
 enum-told-2 c = search needs
 
--- src/lib.rt:34:23
 name-size-requires : tie.Need-name-size-requires
 name-size-requires c κs = search needs
 
--- src/lib.rt:29:1
 returns : tie.Need-returns
 returns c = search size-path
 
--- src/lib.rt:29:1
 returns-2 : tie.Need-returns-2
 returns-2 c = search size-name
 

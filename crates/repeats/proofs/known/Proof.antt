@@ -7,40 +7,31 @@ use borrow.Author.Needs.{needs}
 use Rattle.repeats.proofs.known.Statement.{statement}
 use Rattle.repeats.proofs.known.Tie as tie
 
--- src/lib.rt:126:9
 returns : tie.Need-returns
 unfolding spec.known
 returns c = lt-no _ _ _ _ (omega arith) refl
 
--- src/lib.rt:128:24
 entry-requires : tie.Need-entry-requires
 entry-requires c κs = search needs
 
--- src/lib.rt:128:9
 compare-requires : tie.Need-compare-requires
 compare-requires c κs = search needs
 
--- src/lib.rt:130:24
 enum-told : tie.Need-enum-told
 enum-told c = search needs
 
--- src/lib.rt:131:24
 enum-told-2 : tie.Need-enum-told-2
 enum-told-2 c = search needs
 
--- src/lib.rt:132:24
 enum-told-3 : tie.Need-enum-told-3
 enum-told-3 c = search needs
 
--- src/lib.rt:122:1
 returns-2 : tie.Need-returns-2
 returns-2 c = search known-less
 
--- src/lib.rt:122:1
 returns-3 : tie.Need-returns-3
 returns-3 c = search known-same
 
--- src/lib.rt:122:1
 returns-4 : tie.Need-returns-4
 returns-4 c = search known-more
 

@@ -3,35 +3,27 @@ use borrow.Author.Needs.{needs}
 use Rattle.repeats.proofs.name_size.Statement.{statement}
 use Rattle.repeats.proofs.name_size.Tie as tie
 
--- src/lib.rt:43:9
 returns : tie.Need-returns
 returns c = search name-short
 
--- src/lib.rt:46:9
 returns-2 : tie.Need-returns-2
 returns-2 c = search name-past
 
--- src/lib.rt:48:31
 add-byte : tie.Need-add-byte
 add-byte c = search needs
 
--- src/lib.rt:48:15
 byte-requires : tie.Need-byte-requires
 byte-requires c κs = search needs
 
--- src/lib.rt:48:15
 cast-result : tie.Need-cast-result
 cast-result c = search needs
 
--- src/lib.rt:48:10
 mul-result : tie.Need-mul-result
 mul-result c = search needs
 
--- src/lib.rt:48:5
 add-result : tie.Need-add-result
 add-result c = search needs
 
--- src/lib.rt:38:1
 returns-3 : tie.Need-returns-3
 returns-3 c = search needs
 

@@ -7,52 +7,40 @@ use borrow.Author.Needs.{needs}
 use Rattle.repeats.proofs.narrow.Statement.{statement}
 use Rattle.repeats.proofs.narrow.Tie as tie
 
--- src/lib.rt:97:9
 returns : tie.Need-returns
 unfolding spec.narrow
 returns c = lt-no _ _ _ _ (omega arith) refl
 
--- src/lib.rt:99:21
 sub-mid : tie.Need-sub-mid
 sub-mid c = search needs
 
--- src/lib.rt:99:15
 add-mid : tie.Need-add-mid
 add-mid c = search needs
 
--- src/lib.rt:100:24
 entry-requires : tie.Need-entry-requires
 entry-requires c κs = search needs
 
--- src/lib.rt:100:9
 compare-requires : tie.Need-compare-requires
 compare-requires c κs = search needs
 
--- src/lib.rt:102:35
 enum-told : tie.Need-enum-told
 enum-told c = search needs
 
--- src/lib.rt:102:35
 add-t14 : tie.Need-add-t14
 add-t14 c = search needs
 
--- src/lib.rt:103:24
 enum-told-2 : tie.Need-enum-told-2
 enum-told-2 c = search needs
 
--- src/lib.rt:104:24
 enum-told-3 : tie.Need-enum-told-3
 enum-told-3 c = search needs
 
--- src/lib.rt:91:1
 returns-2 : tie.Need-returns-2
 returns-2 c = search narrow-less
 
--- src/lib.rt:91:1
 returns-3 : tie.Need-returns-3
 returns-3 c = search narrow-same
 
--- src/lib.rt:91:1
 returns-4 : tie.Need-returns-4
 returns-4 c = search narrow-more
 

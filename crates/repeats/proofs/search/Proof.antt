@@ -12,27 +12,21 @@ Inv-loop s sorted m at n w₀ k₀ w k = spec.narrowed s sorted at n w k ≡ spe
 abbrev μ-loop : tie.MeasureT-loop
 μ-loop s sorted m at n w₀ k₀ w k = k
 
--- src/lib.rt:114:5
 loop-holds : tie.Need-loop-holds Inv-loop μ-loop
 loop-holds c = refl
 
--- src/lib.rt:115:9
 narrow-requires : tie.Need-narrow-requires Inv-loop μ-loop
 narrow-requires c κs = search needs
 
--- src/lib.rt:116:9
 sub-k : tie.Need-sub-k Inv-loop μ-loop
 sub-k c = omega arith
 
--- src/lib.rt:114:5
 loop-less : tie.Need-loop-less Inv-loop μ-loop
 loop-less c = omega arith
 
--- src/lib.rt:114:5
 loop-again : tie.Need-loop-again Inv-loop μ-loop
 loop-again c = search search-more
 
--- src/lib.rt:109:1
 returns : tie.Need-returns Inv-loop μ-loop
 unfolding spec.search
 returns c = search search-done

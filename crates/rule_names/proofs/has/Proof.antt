@@ -1,5 +1,5 @@
 use Rattle.rule_names.specs.Steps.{has-past, has-short, has-start, has-more, has-yes, has-done}
-use Rattle.rule_names.specs.RuleNames.{run}
+use Rattle.ends.specs.Runs.{run}
 use Rattle.stored.specs.Stored.{numbersAt}
 use Rattle.net_file.specs.Lists.{any}
 use lib.Dec.{eqb}
@@ -10,9 +10,6 @@ use borrow.Author.Needs.{needs}
 use native.Mathlib.Omega.{arith}
 use Rattle.rule_names.proofs.has.Statement.{statement}
 use Rattle.rule_names.proofs.has.Tie as tie
-use Rattle.rule_names.proofs.has.Reads as reads
-use Rattle.rule_names.proofs.has.Lts as lts
-use Rattle.fields.proofs.be16.Reads as be16-reads
 
 abbrev Inv-loop : tie.InvT-loop
 Inv-loop s from n x at₀ k₀ at k = (any (eqb x) (numbersAt s at k) ≡ any (eqb x) (run s from n)) × (at + 2 * k ≤ length s)
@@ -20,51 +17,39 @@ Inv-loop s from n x at₀ k₀ at k = (any (eqb x) (numbersAt s at k) ≡ any (e
 abbrev μ-loop : tie.MeasureT-loop
 μ-loop s from n x at₀ k₀ at k = k
 
--- src/lib.rt:12:9
 returns : tie.Need-returns Inv-loop μ-loop
 returns c = search has-past
 
--- src/lib.rt:14:9
 sub-if2 : tie.Need-sub-if2 Inv-loop μ-loop
 sub-if2 c = omega arith
 
--- src/lib.rt:15:9
 returns-2 : tie.Need-returns-2 Inv-loop μ-loop
 returns-2 c = search has-short
 
--- src/lib.rt:19:5
 loop-holds : tie.Need-loop-holds Inv-loop μ-loop
 loop-holds c = (search has-start, omega arith)
 
--- src/lib.rt:20:13
 be16-requires : tie.Need-be16-requires Inv-loop μ-loop
 be16-requires c κs = search needs
 
--- src/lib.rt:21:17
 cast-if3 : tie.Need-cast-if3 Inv-loop μ-loop
 cast-if3 c = search needs
 
--- src/lib.rt:22:13
 returns-3 : tie.Need-returns-3 Inv-loop μ-loop
 returns-3 c = search has-yes
 
--- src/lib.rt:24:9
 add-at : tie.Need-add-at Inv-loop μ-loop
 add-at c = omega arith
 
--- src/lib.rt:25:9
 sub-k : tie.Need-sub-k Inv-loop μ-loop
 sub-k c = omega arith
 
--- src/lib.rt:19:5
 loop-less : tie.Need-loop-less Inv-loop μ-loop
 loop-less c = omega arith
 
--- src/lib.rt:19:5
 loop-again : tie.Need-loop-again Inv-loop μ-loop
 loop-again c = (search has-more, omega arith)
 
--- src/lib.rt:8:1
 returns-4 : tie.Need-returns-4 Inv-loop μ-loop
 returns-4 c = search has-done
 

@@ -5,9 +5,6 @@ use borrow.Author.Needs.{needs}
 use native.Mathlib.Omega.{arith}
 use Rattle.rule_names.proofs.lists_after.Statement.{statement}
 use Rattle.rule_names.proofs.lists_after.Tie as tie
-use Rattle.rule_names.proofs.lists_after.Reads as reads
-use Rattle.rule_names.proofs.lists_after.Lts as lts
-use Rattle.ends.proofs.list_end.Reads as list-end-reads
 
 abbrev Inv-loop : tie.InvT-loop
 Inv-loop s from n at₀ k₀ at k = listsAfter s at k ≡ listsAfter s from n
@@ -15,27 +12,21 @@ Inv-loop s from n at₀ k₀ at k = listsAfter s at k ≡ listsAfter s from n
 abbrev μ-loop : tie.MeasureT-loop
 μ-loop s from n at₀ k₀ at k = k
 
--- src/lib.rt:60:5
 loop-holds : tie.Need-loop-holds Inv-loop μ-loop
 loop-holds c = search needs
 
--- src/lib.rt:61:9
 list-end-requires : tie.Need-list-end-requires Inv-loop μ-loop
 list-end-requires c κs = search needs
 
--- src/lib.rt:62:9
 sub-k : tie.Need-sub-k Inv-loop μ-loop
 sub-k c = omega arith
 
--- src/lib.rt:60:5
 loop-less : tie.Need-loop-less Inv-loop μ-loop
 loop-less c = omega arith
 
--- src/lib.rt:60:5
 loop-again : tie.Need-loop-again Inv-loop μ-loop
 loop-again c = search after-more
 
--- src/lib.rt:55:1
 returns : tie.Need-returns Inv-loop μ-loop
 returns c = search after-done
 

@@ -5,10 +5,6 @@ use borrow.Author.Needs.{needs}
 use native.Mathlib.Omega.{arith}
 use Rattle.rule_names.proofs.lists_have.Statement.{statement}
 use Rattle.rule_names.proofs.lists_have.Tie as tie
-use Rattle.rule_names.proofs.lists_have.Reads as reads
-use Rattle.rule_names.proofs.lists_have.Lts as lts
-use Rattle.ends.proofs.list_end.Reads as list-end-reads
-use Rattle.rule_names.proofs.list_has.Reads as list-has-reads
 
 abbrev Inv-loop : tie.InvT-loop
 Inv-loop s from n x at₀ k₀ at k = listsHave s at k x ≡ listsHave s from n x
@@ -16,35 +12,27 @@ Inv-loop s from n x at₀ k₀ at k = listsHave s at k x ≡ listsHave s from n 
 abbrev μ-loop : tie.MeasureT-loop
 μ-loop s from n x at₀ k₀ at k = k
 
--- src/lib.rt:45:5
 loop-holds : tie.Need-loop-holds Inv-loop μ-loop
 loop-holds c = search needs
 
--- src/lib.rt:46:12
 list-has-requires : tie.Need-list-has-requires Inv-loop μ-loop
 list-has-requires c κs = search needs
 
--- src/lib.rt:47:13
 returns : tie.Need-returns Inv-loop μ-loop
 returns c = search lists-yes
 
--- src/lib.rt:49:9
 list-end-requires : tie.Need-list-end-requires Inv-loop μ-loop
 list-end-requires c κs = search needs
 
--- src/lib.rt:50:9
 sub-k : tie.Need-sub-k Inv-loop μ-loop
 sub-k c = omega arith
 
--- src/lib.rt:45:5
 loop-less : tie.Need-loop-less Inv-loop μ-loop
 loop-less c = omega arith
 
--- src/lib.rt:45:5
 loop-again : tie.Need-loop-again Inv-loop μ-loop
 loop-again c = search lists-more
 
--- src/lib.rt:40:1
 returns-2 : tie.Need-returns-2 Inv-loop μ-loop
 returns-2 c = search lists-done
 

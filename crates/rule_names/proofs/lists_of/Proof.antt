@@ -4,30 +4,23 @@ use mathlib.Core.Path.{refl}
 use native.Mathlib.Omega.{arith}
 use Rattle.rule_names.proofs.lists_of.Statement.{statement}
 use Rattle.rule_names.proofs.lists_of.Tie as tie
-use Rattle.rule_names.proofs.lists_of.Reads as reads
-use Rattle.rule_names.proofs.lists_of.Lts as lts
 
--- src/lib.rt:72:9
 returns : tie.Need-returns
 unfolding listsOf
 returns c = lt-yes _ _ _ _ (omega arith) refl
 
--- src/lib.rt:75:9
 returns-2 : tie.Need-returns-2
 unfolding listsOf
 returns-2 c = lt-no _ _ _ _ (omega arith) (eq-yes _ _ _ _ (omega arith) refl)
 
--- src/lib.rt:78:9
 returns-3 : tie.Need-returns-3
 unfolding listsOf
 returns-3 c = lt-no _ _ _ _ (omega arith) (eq-no _ _ _ _ (omega arith) (lt-yes _ _ _ _ (omega arith) refl))
 
--- src/lib.rt:81:9
 returns-4 : tie.Need-returns-4
 unfolding listsOf
 returns-4 c = lt-no _ _ _ _ (omega arith) (eq-no _ _ _ _ (omega arith) (lt-no _ _ _ _ (omega arith) (eq-yes _ _ _ _ (omega arith) refl)))
 
--- src/lib.rt:68:1
 returns-5 : tie.Need-returns-5
 unfolding listsOf
 returns-5 c = lt-no _ _ _ _ (omega arith) (eq-no _ _ _ _ (omega arith) (lt-no _ _ _ _ (omega arith) (eq-no _ _ _ _ (omega arith) refl)))

@@ -5,10 +5,6 @@ use borrow.Author.Needs.{needs}
 use native.Mathlib.Omega.{arith}
 use Rattle.rule_names.proofs.rules_name.Statement.{statement}
 use Rattle.rule_names.proofs.rules_name.Tie as tie
-use Rattle.rule_names.proofs.rules_name.Reads as reads
-use Rattle.rule_names.proofs.rules_name.Lts as lts
-use Rattle.rule_names.proofs.rule_after.Reads as rule-after-reads
-use Rattle.rule_names.proofs.rule_names.Reads as rule-names-reads
 
 abbrev Inv-loop : tie.InvT-loop
 Inv-loop s from n x at₀ k₀ at k = rulesName s at k x ≡ rulesName s from n x
@@ -16,35 +12,27 @@ Inv-loop s from n x at₀ k₀ at k = rulesName s at k x ≡ rulesName s from n 
 abbrev μ-loop : tie.MeasureT-loop
 μ-loop s from n x at₀ k₀ at k = k
 
--- src/lib.rt:129:5
 loop-holds : tie.Need-loop-holds Inv-loop μ-loop
 loop-holds c = search needs
 
--- src/lib.rt:130:12
 rule-names-requires : tie.Need-rule-names-requires Inv-loop μ-loop
 rule-names-requires c κs = search needs
 
--- src/lib.rt:131:13
 returns : tie.Need-returns Inv-loop μ-loop
 returns c = search rules-yes
 
--- src/lib.rt:133:9
 rule-after-requires : tie.Need-rule-after-requires Inv-loop μ-loop
 rule-after-requires c κs = search needs
 
--- src/lib.rt:134:9
 sub-k : tie.Need-sub-k Inv-loop μ-loop
 sub-k c = omega arith
 
--- src/lib.rt:129:5
 loop-less : tie.Need-loop-less Inv-loop μ-loop
 loop-less c = omega arith
 
--- src/lib.rt:129:5
 loop-again : tie.Need-loop-again Inv-loop μ-loop
 loop-again c = search rules-more
 
--- src/lib.rt:124:1
 returns-2 : tie.Need-returns-2 Inv-loop μ-loop
 returns-2 c = search rules-done
 

@@ -4,30 +4,20 @@ use native.Mathlib.Omega.{arith}
 use borrow.Author.Needs.{needs}
 use Rattle.rule_names.proofs.tagged_after.Statement.{statement}
 use Rattle.rule_names.proofs.tagged_after.Tie as tie
-use Rattle.rule_names.proofs.tagged_after.Reads as reads
-use Rattle.rule_names.proofs.tagged_after.Lts as lts
-use Rattle.ends.proofs.on.Reads as on-reads
-use Rattle.rule_names.proofs.lists_after.Reads as lists-after-reads
-use Rattle.rule_names.proofs.lists_of.Reads as lists-of-reads
 
--- src/lib.rt:101:9
 on-requires : tie.Need-on-requires
 on-requires c κs = search needs
 
--- src/lib.rt:101:9
 returns : tie.Need-returns
 unfolding taggedAfter
 returns c = eq-yes _ _ _ _ (omega arith) (cc)
 
--- src/lib.rt:103:9
 lists-of-requires : tie.Need-lists-of-requires
 lists-of-requires c κs = search needs
 
--- src/lib.rt:104:5
 lists-after-requires : tie.Need-lists-after-requires
 lists-after-requires c κs = search needs
 
--- src/lib.rt:97:1
 returns-2 : tie.Need-returns-2
 unfolding taggedAfter
 returns-2 c = eq-no _ _ _ _ (omega arith) (cc)

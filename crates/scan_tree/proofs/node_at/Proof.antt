@@ -3,19 +3,13 @@ use Rattle.scan_tree.specs.Count.{node-zero, node-one}
 use borrow.Author.Needs.{needs}
 use Rattle.scan_tree.proofs.node_at.Statement.{statement}
 use Rattle.scan_tree.proofs.node_at.Tie as tie
-use Rattle.scan_tree.proofs.node_at.Reads as reads
-use Rattle.scan_tree.proofs.node_at.Lts as lts
-use Rattle.fields.proofs.byte.Reads as byte-reads
 
--- src/lib.rt:54:8
 byte-requires : tie.Need-byte-requires
 byte-requires c κs = search needs
 
--- src/lib.rt:51:1
 returns : tie.Need-returns
 returns c = (search node-zero, omega arith)
 
--- src/lib.rt:51:1
 returns-2 : tie.Need-returns-2
 returns-2 c = (search node-one, omega arith)
 

@@ -4,53 +4,37 @@ use native.Mathlib.Omega.{arith}
 use borrow.Author.Needs.{needs}
 use Rattle.tables.proofs.path_table.Statement.{statement}
 use Rattle.tables.proofs.path_table.Tie as tie
-use Rattle.tables.proofs.path_table.Reads as reads
-use Rattle.tables.proofs.path_table.Lts as lts
-use Rattle.fields.proofs.be16.Reads as be16-reads
-use Rattle.free_path.proofs.others.Reads as others-reads
-use Rattle.walk_paths.proofs.paths.Reads as paths-reads
 
--- src/lib.rt:13:9
 returns : tie.Need-returns
 returns c = search path-table-short
 
--- src/lib.rt:15:9
 be16-requires : tie.Need-be16-requires
 be16-requires c κs = search needs
 
--- src/lib.rt:16:38
 cast-paths : tie.Need-cast-paths
 cast-paths c = search needs
 
--- src/lib.rt:16:9
 paths-requires : tie.Need-paths-requires
 paths-requires c κs = search needs
 
--- src/lib.rt:18:20
 enum-known-w : tie.Need-enum-known-w
 enum-known-w c = search needs
 
--- src/lib.rt:19:47
 cast-others : tie.Need-cast-others
 cast-others c = search needs
 
--- src/lib.rt:19:22
 others-requires : tie.Need-others-requires
 others-requires c κs = search needs
 
--- src/lib.rt:20:17
 returns-2 : tie.Need-returns-2
 returns-2 c = let l : c .before .before .before .before .before .before .be16 .result < 65536 = omega arith in search path-table-many
 
--- src/lib.rt:24:24
 enum-told : tie.Need-enum-told
 enum-told c = search needs
 
--- src/lib.rt:9:1
 returns-3 : tie.Need-returns-3
 returns-3 c = let l : c .before .before .before .before .before .before .be16 .result < 65536 = omega arith in search path-table-on
 
--- src/lib.rt:9:1
 returns-4 : tie.Need-returns-4
 returns-4 c = let l : c .before .before .before .be16 .result < 65536 = omega arith in search path-table-bad
 

@@ -5,41 +5,28 @@ use native.Mathlib.Omega.{arith}
 use borrow.Author.Needs.{needs}
 use Rattle.walk_flat.proofs.flat_net.Statement.{statement}
 use Rattle.walk_flat.proofs.flat_net.Tie as tie
-use Rattle.walk_flat.proofs.flat_net.Reads as reads
-use Rattle.walk_flat.proofs.flat_net.Lts as lts
-use Rattle.fields.proofs.be32.Reads as be32-reads
-use Rattle.walk_flat.proofs.parts.Reads as parts-reads
-use Rattle.walk_head.proofs.net_head.Reads as net-head-reads
 
--- src/lib.rt:108:9
 net-head-requires : tie.Need-net-head-requires
 net-head-requires c κs = search needs
 
--- src/lib.rt:110:20
 enum-known-h : tie.Need-enum-known-h
 enum-known-h c = search needs
 
--- src/lib.rt:111:41
 add-be32 : tie.Need-add-be32
 add-be32 c = let a = c .before .before .before .before .before .args in let l : a .at + 7 ≤ length (a .s .now) = search net-room in omega arith
 
--- src/lib.rt:111:17
 be32-requires : tie.Need-be32-requires
 be32-requires c κs = search needs
 
--- src/lib.rt:112:13
 parts-requires : tie.Need-parts-requires
 parts-requires c κs = search needs
 
--- src/lib.rt:114:24
 enum-told : tie.Need-enum-told
 enum-told c = search needs
 
--- src/lib.rt:105:1
 returns : tie.Need-returns
 returns c = search net-on
 
--- src/lib.rt:105:1
 returns-2 : tie.Need-returns-2
 returns-2 c = search net-bad
 

@@ -9,9 +9,6 @@ use borrow.Author.Needs.{needs}
 use native.Mathlib.Omega.{arith}
 use Rattle.walk_flat.proofs.nodes.Statement.{statement}
 use Rattle.walk_flat.proofs.nodes.Tie as tie
-use Rattle.walk_flat.proofs.nodes.Reads as reads
-use Rattle.walk_flat.proofs.nodes.Lts as lts
-use Rattle.walk_flat.proofs.node.Reads as node-reads
 
 abbrev Inv-loop : tie.InvT-loop
 Inv-loop s from n paths names wires at₀ k₀ at k = (after at (times k (readNode paths names wires)) s ≡ after from (times n (readNode paths names wires)) s) × (at ≤ length s)
@@ -19,43 +16,33 @@ Inv-loop s from n paths names wires at₀ k₀ at k = (after at (times k (readNo
 abbrev μ-loop : tie.MeasureT-loop
 μ-loop s from n paths names wires at₀ k₀ at k = k
 
--- src/lib.rt:40:9
 returns : tie.Need-returns Inv-loop μ-loop
 returns c = after-past _ _ _ (c .if1 .taken)
 
--- src/lib.rt:44:5
 loop-holds : tie.Need-loop-holds Inv-loop μ-loop
 loop-holds c = (search needs, omega arith)
 
--- src/lib.rt:45:13
 node-requires : tie.Need-node-requires Inv-loop μ-loop
 node-requires c κs = search needs
 
--- src/lib.rt:47:24
 enum-known-w : tie.Need-enum-known-w Inv-loop μ-loop
 enum-known-w c = search needs
 
--- src/lib.rt:51:17
 enum-told : tie.Need-enum-told Inv-loop μ-loop
 enum-told c = search needs
 
--- src/lib.rt:51:17
 returns-2 : tie.Need-returns-2 Inv-loop μ-loop
 returns-2 c = search times-bad
 
--- src/lib.rt:54:9
 sub-k : tie.Need-sub-k Inv-loop μ-loop
 sub-k c = omega arith
 
--- src/lib.rt:44:5
 loop-less : tie.Need-loop-less Inv-loop μ-loop
 loop-less c = omega arith
 
--- src/lib.rt:44:5
 loop-again : tie.Need-loop-again Inv-loop μ-loop
 loop-again c = (search nodes-more, search after-within)
 
--- src/lib.rt:36:1
 returns-3 : tie.Need-returns-3 Inv-loop μ-loop
 returns-3 c = search times-done
 

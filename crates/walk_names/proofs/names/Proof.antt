@@ -9,9 +9,6 @@ use borrow.Author.Needs.{needs}
 use native.Mathlib.Omega.{arith}
 use Rattle.walk_names.proofs.names.Statement.{statement}
 use Rattle.walk_names.proofs.names.Tie as tie
-use Rattle.walk_names.proofs.names.Reads as reads
-use Rattle.walk_names.proofs.names.Lts as lts
-use Rattle.walk.proofs.name.Reads as name-reads
 
 abbrev Inv-loop : tie.InvT-loop
 Inv-loop s from n paths at₀ i₀ at i = (after at (timesFrom (readName paths) i (n - i)) s ≡ after from (timesFrom (readName paths) 0 n) s) × (at ≤ length s)
@@ -19,43 +16,33 @@ Inv-loop s from n paths at₀ i₀ at i = (after at (timesFrom (readName paths) 
 abbrev μ-loop : tie.MeasureT-loop
 μ-loop s from n paths at₀ i₀ at i = n - i
 
--- src/lib.rt:11:9
 returns : tie.Need-returns Inv-loop μ-loop
 returns c = after-past _ _ _ (c .if1 .taken)
 
--- src/lib.rt:15:5
 loop-holds : tie.Need-loop-holds Inv-loop μ-loop
 loop-holds c = (rw sub-zero, omega arith)
 
--- src/lib.rt:16:13
 name-requires : tie.Need-name-requires Inv-loop μ-loop
 name-requires c κs = search needs
 
--- src/lib.rt:18:24
 enum-known-w : tie.Need-enum-known-w Inv-loop μ-loop
 enum-known-w c = search needs
 
--- src/lib.rt:22:17
 enum-told : tie.Need-enum-told Inv-loop μ-loop
 enum-told c = search needs
 
--- src/lib.rt:22:17
 returns-2 : tie.Need-returns-2 Inv-loop μ-loop
 returns-2 c = search names-bad
 
--- src/lib.rt:25:9
 add-i : tie.Need-add-i Inv-loop μ-loop
 add-i c = omega arith
 
--- src/lib.rt:15:5
 loop-less : tie.Need-loop-less Inv-loop μ-loop
 loop-less c = omega arith
 
--- src/lib.rt:15:5
 loop-again : tie.Need-loop-again Inv-loop μ-loop
 loop-again c = (search names-more, search after-within)
 
--- src/lib.rt:7:1
 returns-3 : tie.Need-returns-3 Inv-loop μ-loop
 returns-3 c = search names-done
 

@@ -2,40 +2,28 @@ use Rattle.walk_paths.specs.Paths.{path-none, path-empty, path-long, pat
 use borrow.Author.Needs.{needs}
 use Rattle.walk_paths.proofs.path.Statement.{statement}
 use Rattle.walk_paths.proofs.path.Tie as tie
-use Rattle.walk_paths.proofs.path.Reads as reads
-use Rattle.walk_paths.proofs.path.Lts as lts
-use Rattle.fields.proofs.byte.Reads as byte-reads
-use Rattle.walk_paths.proofs.text.Reads as text-reads
 
--- src/lib.rt:42:9
 returns : tie.Need-returns
 returns c = search path-none
 
--- src/lib.rt:44:9
 byte-requires : tie.Need-byte-requires
 byte-requires c κs = search needs
 
--- src/lib.rt:46:9
 returns-2 : tie.Need-returns-2
 returns-2 c = search path-empty
 
--- src/lib.rt:49:9
 returns-3 : tie.Need-returns-3
 returns-3 c = search path-long
 
--- src/lib.rt:51:13
 add-text : tie.Need-add-text
 add-text c = search needs
 
--- src/lib.rt:51:21
 cast-text : tie.Need-cast-text
 cast-text c = search needs
 
--- src/lib.rt:51:5
 text-requires : tie.Need-text-requires
 text-requires c κs = search needs
 
--- src/lib.rt:38:1
 returns-4 : tie.Need-returns-4
 returns-4 c = search path-on
 

@@ -3,85 +3,61 @@ use native.Mathlib.Omega.{arith}
 use borrow.Author.Needs.{needs}
 use Rattle.walk_rules.proofs.rule.Statement.{statement}
 use Rattle.walk_rules.proofs.rule.Tie as tie
-use Rattle.walk_rules.proofs.rule.Reads as reads
-use Rattle.walk_rules.proofs.rule.Lts as lts
-use Rattle.fields.proofs.byte.Reads as byte-reads
-use Rattle.walk_rules.proofs.graft.Reads as graft-reads
-use Rattle.walk_rules.proofs.lists.Reads as lists-reads
 
--- src/lib.rt:56:9
 returns : tie.Need-returns
 returns c = search rule-none
 
--- src/lib.rt:58:9
 byte-requires : tie.Need-byte-requires
 byte-requires c κs = search needs
 
--- src/lib.rt:60:23
 add-graft : tie.Need-add-graft
 add-graft c = search needs
 
--- src/lib.rt:60:14
 graft-requires : tie.Need-graft-requires
 graft-requires c κs = search needs
 
--- src/lib.rt:61:23
 add-lists : tie.Need-add-lists
 add-lists c = search needs
 
--- src/lib.rt:61:14
 lists-requires : tie.Need-lists-requires
 lists-requires c κs = search needs
 
--- src/lib.rt:62:23
 add-lists-2 : tie.Need-add-lists-2
 add-lists-2 c = search needs
 
--- src/lib.rt:62:14
 lists-requires-2 : tie.Need-lists-requires-2
 lists-requires-2 c κs = search needs
 
--- src/lib.rt:63:23
 add-lists-3 : tie.Need-add-lists-3
 add-lists-3 c = search needs
 
--- src/lib.rt:63:14
 lists-requires-3 : tie.Need-lists-requires-3
 lists-requires-3 c κs = search needs
 
--- src/lib.rt:64:23
 add-lists-4 : tie.Need-add-lists-4
 add-lists-4 c = search needs
 
--- src/lib.rt:64:14
 lists-requires-4 : tie.Need-lists-requires-4
 lists-requires-4 c κs = search needs
 
--- src/lib.rt:52:1
 returns-2 : tie.Need-returns-2
 returns-2 c = search tagged-1
 
--- src/lib.rt:52:1
 returns-3 : tie.Need-returns-3
 returns-3 c = search tagged-2
 
--- src/lib.rt:52:1
 returns-4 : tie.Need-returns-4
 returns-4 c = search tagged-3
 
--- src/lib.rt:52:1
 returns-5 : tie.Need-returns-5
 returns-5 c = search tagged-4
 
--- src/lib.rt:52:1
 returns-6 : tie.Need-returns-6
 returns-6 c = search tagged-5
 
--- src/lib.rt:52:1
 returns-7 : tie.Need-returns-7
 returns-7 c = search tag-none
 
--- src/lib.rt:52:1
 returns-8 : tie.Need-returns-8
 returns-8 c = tag-past _ _ _ _ (omega arith) (c .before .byte .ensures) (omega arith)
 

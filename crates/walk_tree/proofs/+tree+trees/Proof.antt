@@ -38,7 +38,6 @@ trees-at t = and 1 trees-kinds.ps (is 1 trees-kinds.ps μ-trees t) trees.Pre
 abbrev trees-below : ℕ → In 1 trees-kinds.ps
 trees-below t = and 1 trees-kinds.ps (falls 1 trees-kinds.ps _<_ μ-trees t) trees.Pre
 
--- src/lib.rt:30:9
 tree-returns : (t : ℕ) → tree-lts.Need-returns (
   byte-reads.Asked,
   byte-reads.Learnt,
@@ -51,7 +50,6 @@ tree-returns : (t : ℕ) → tree-lts.Need-returns (
 ) (tree-at t) tree.Post
 tree-returns t c = search spec.tree-none
 
--- src/lib.rt:32:9
 tree-byte-requires : (t : ℕ) → tree-lts.Need-byte-requires (
   byte-reads.Asked,
   byte-reads.Learnt,
@@ -64,7 +62,6 @@ tree-byte-requires : (t : ℕ) → tree-lts.Need-byte-requires (
 ) (tree-at t) tree.Post
 tree-byte-requires t c κs = search needs
 
--- src/lib.rt:34:24
 tree-add-wire : (t : ℕ) → tree-lts.Need-add-wire (
   byte-reads.Asked,
   byte-reads.Learnt,
@@ -77,7 +74,6 @@ tree-add-wire : (t : ℕ) → tree-lts.Need-add-wire (
 ) (tree-at t) tree.Post
 tree-add-wire t c = search needs
 
--- src/lib.rt:34:9
 tree-wire-requires : (t : ℕ) → tree-lts.Need-wire-requires (
   byte-reads.Asked,
   byte-reads.Learnt,
@@ -90,7 +86,6 @@ tree-wire-requires : (t : ℕ) → tree-lts.Need-wire-requires (
 ) (tree-at t) tree.Post
 tree-wire-requires t c κs = search needs
 
--- src/lib.rt:34:9
 tree-returns-2 : (t : ℕ) → tree-lts.Need-returns-2 (
   byte-reads.Asked,
   byte-reads.Learnt,
@@ -103,7 +98,6 @@ tree-returns-2 : (t : ℕ) → tree-lts.Need-returns-2 (
 ) (tree-at t) tree.Post
 tree-returns-2 t c = search spec.tree-wire
 
--- src/lib.rt:37:9
 tree-returns-3 : (t : ℕ) → tree-lts.Need-returns-3 (
   byte-reads.Asked,
   byte-reads.Learnt,
@@ -116,7 +110,6 @@ tree-returns-3 : (t : ℕ) → tree-lts.Need-returns-3 (
 ) (tree-at t) tree.Post
 tree-returns-3 t c = search spec.tree-tag
 
--- src/lib.rt:40:9
 tree-returns-4 : (t : ℕ) → tree-lts.Need-returns-4 (
   byte-reads.Asked,
   byte-reads.Learnt,
@@ -129,7 +122,6 @@ tree-returns-4 : (t : ℕ) → tree-lts.Need-returns-4 (
 ) (tree-at t) tree.Post
 tree-returns-4 t c = search spec.tree-deep
 
--- src/lib.rt:42:27
 tree-add-name : (t : ℕ) → tree-lts.Need-add-name (
   byte-reads.Asked,
   byte-reads.Learnt,
@@ -142,7 +134,6 @@ tree-add-name : (t : ℕ) → tree-lts.Need-add-name (
 ) (tree-at t) tree.Post
 tree-add-name t c = search needs
 
--- src/lib.rt:42:9
 tree-name-requires : (t : ℕ) → tree-lts.Need-name-requires (
   byte-reads.Asked,
   byte-reads.Learnt,
@@ -155,7 +146,6 @@ tree-name-requires : (t : ℕ) → tree-lts.Need-name-requires (
 ) (tree-at t) tree.Post
 tree-name-requires t c κs = search needs
 
--- src/lib.rt:43:20
 tree-enum-known-m : (t : ℕ) → tree-lts.Need-enum-known-m (
   byte-reads.Asked,
   byte-reads.Learnt,
@@ -168,7 +158,6 @@ tree-enum-known-m : (t : ℕ) → tree-lts.Need-enum-known-m (
 ) (tree-at t) tree.Post
 tree-enum-known-m t c = search needs
 
--- src/lib.rt:44:9
 tree-enum-told : (t : ℕ) → tree-lts.Need-enum-told (
   byte-reads.Asked,
   byte-reads.Learnt,
@@ -181,7 +170,6 @@ tree-enum-told : (t : ℕ) → tree-lts.Need-enum-told (
 ) (tree-at t) tree.Post
 tree-enum-told t c = search needs
 
--- src/lib.rt:44:9
 tree-returns-5 : (t : ℕ) → tree-lts.Need-returns-5 (
   byte-reads.Asked,
   byte-reads.Learnt,
@@ -194,7 +182,6 @@ tree-returns-5 : (t : ℕ) → tree-lts.Need-returns-5 (
 ) (tree-at t) tree.Post
 tree-returns-5 t c = search spec.tree-name
 
--- src/lib.rt:47:9
 tree-returns-6 : (t : ℕ) → tree-lts.Need-returns-6 (
   byte-reads.Asked,
   byte-reads.Learnt,
@@ -207,7 +194,6 @@ tree-returns-6 : (t : ℕ) → tree-lts.Need-returns-6 (
 ) (tree-at t) tree.Post
 tree-returns-6 t c = search spec.tree-count
 
--- src/lib.rt:49:9
 tree-byte-requires-2 : (t : ℕ) → tree-lts.Need-byte-requires-2 (
   byte-reads.Asked,
   byte-reads.Learnt,
@@ -220,7 +206,6 @@ tree-byte-requires-2 : (t : ℕ) → tree-lts.Need-byte-requires-2 (
 ) (tree-at t) tree.Post
 tree-byte-requires-2 t c κs = search needs
 
--- src/lib.rt:51:9
 tree-returns-7 : (t : ℕ) → tree-lts.Need-returns-7 (
   byte-reads.Asked,
   byte-reads.Learnt,
@@ -233,7 +218,6 @@ tree-returns-7 : (t : ℕ) → tree-lts.Need-returns-7 (
 ) (tree-at t) tree.Post
 tree-returns-7 t c = search spec.tree-wide
 
--- src/lib.rt:53:14
 tree-add-trees : (t : ℕ) → tree-lts.Need-add-trees (
   byte-reads.Asked,
   byte-reads.Learnt,
@@ -246,7 +230,6 @@ tree-add-trees : (t : ℕ) → tree-lts.Need-add-trees (
 ) (tree-at t) tree.Post
 tree-add-trees t c = search needs
 
--- src/lib.rt:53:21
 tree-cast-trees : (t : ℕ) → tree-lts.Need-cast-trees (
   byte-reads.Asked,
   byte-reads.Learnt,
@@ -259,7 +242,6 @@ tree-cast-trees : (t : ℕ) → tree-lts.Need-cast-trees (
 ) (tree-at t) tree.Post
 tree-cast-trees t c = search needs
 
--- src/lib.rt:53:52
 tree-sub-trees : (t : ℕ) → tree-lts.Need-sub-trees (
   byte-reads.Asked,
   byte-reads.Learnt,
@@ -272,7 +254,6 @@ tree-sub-trees : (t : ℕ) → tree-lts.Need-sub-trees (
 ) (tree-at t) tree.Post
 tree-sub-trees t c = search needs
 
--- src/lib.rt:53:5
 tree-trees-requires : (t : ℕ) → tree-lts.Need-trees-requires (
   byte-reads.Asked,
   byte-reads.Learnt,
@@ -285,7 +266,6 @@ tree-trees-requires : (t : ℕ) → tree-lts.Need-trees-requires (
 ) (tree-at t) tree.Post
 tree-trees-requires t c κs = (omega arith, search needs)
 
--- src/lib.rt:26:1
 tree-returns-8 : (t : ℕ) → tree-lts.Need-returns-8 (
   byte-reads.Asked,
   byte-reads.Learnt,
@@ -305,7 +285,6 @@ trees-Inv-loop s from n paths names wires d at₀ k₀ at k =
 abbrev trees-μ-loop : trees-lts.MeasureT-loop
 trees-μ-loop s from n paths names wires d at₀ k₀ at k = k
 
--- src/lib.rt:69:9
 trees-returns :
     (t : ℕ) →
     trees-lts.Need-returns
@@ -316,7 +295,6 @@ trees-returns :
     trees-μ-loop
 trees-returns t c = search spec.trees-past
 
--- src/lib.rt:73:5
 trees-loop-holds :
     (t : ℕ) →
     trees-lts.Need-loop-holds
@@ -327,7 +305,6 @@ trees-loop-holds :
     trees-μ-loop
 trees-loop-holds t c = (search needs, omega arith)
 
--- src/lib.rt:74:13
 trees-tree-requires :
     (t : ℕ) →
     trees-lts.Need-tree-requires
@@ -338,7 +315,6 @@ trees-tree-requires :
     trees-μ-loop
 trees-tree-requires t c κs = (omega arith, search needs)
 
--- src/lib.rt:76:24
 trees-enum-known-t :
     (t : ℕ) →
     trees-lts.Need-enum-known-t
@@ -349,7 +325,6 @@ trees-enum-known-t :
     trees-μ-loop
 trees-enum-known-t t c = search needs
 
--- src/lib.rt:80:17
 trees-enum-told :
     (t : ℕ) →
     trees-lts.Need-enum-told
@@ -360,7 +335,6 @@ trees-enum-told :
     trees-μ-loop
 trees-enum-told t c = search needs
 
--- src/lib.rt:80:17
 trees-returns-2 :
     (t : ℕ) →
     trees-lts.Need-returns-2
@@ -371,7 +345,6 @@ trees-returns-2 :
     trees-μ-loop
 trees-returns-2 t c = search spec.trees-bad
 
--- src/lib.rt:83:9
 trees-sub-k :
     (t : ℕ) →
     trees-lts.Need-sub-k
@@ -382,7 +355,6 @@ trees-sub-k :
     trees-μ-loop
 trees-sub-k t c = omega arith
 
--- src/lib.rt:73:5
 trees-loop-less :
     (t : ℕ) →
     trees-lts.Need-loop-less
@@ -393,7 +365,6 @@ trees-loop-less :
     trees-μ-loop
 trees-loop-less t c = omega arith
 
--- src/lib.rt:73:5
 trees-loop-again :
     (t : ℕ) →
     trees-lts.Need-loop-again
@@ -404,7 +375,6 @@ trees-loop-again :
     trees-μ-loop
 trees-loop-again t c = (search spec.trees-more, search spec.tree-within)
 
--- src/lib.rt:57:1
 trees-returns-3 :
     (t : ℕ) →
     trees-lts.Need-returns-3

@@ -8,9 +8,6 @@ use Rattle.walk.specs.After.{after}
 use Rattle.walk_tree.specs.Net.{nets-past, nets-more, nets-bad, nets-done, net-within}
 use Rattle.walk_tree.proofs.tree_nets.Statement.{statement}
 use Rattle.walk_tree.proofs.tree_nets.Tie as tie
-use Rattle.walk_tree.proofs.tree_nets.Reads as reads
-use Rattle.walk_tree.proofs.tree_nets.Lts as lts
-use Rattle.walk_tree.proofs.tree_net.Reads as tree-net-reads
 
 abbrev Inv-loop : tie.InvT-loop
 Inv-loop s from n paths names at₀ k₀ at k =
@@ -19,43 +16,33 @@ Inv-loop s from n paths names at₀ k₀ at k =
 abbrev μ-loop : tie.MeasureT-loop
 μ-loop s from n paths names at₀ k₀ at k = k
 
--- src/lib.rt:146:9
 returns : tie.Need-returns Inv-loop μ-loop
 returns c = search nets-past
 
--- src/lib.rt:150:5
 loop-holds : tie.Need-loop-holds Inv-loop μ-loop
 loop-holds c = (search needs, omega arith)
 
--- src/lib.rt:151:13
 tree-net-requires : tie.Need-tree-net-requires Inv-loop μ-loop
 tree-net-requires c κs = search needs
 
--- src/lib.rt:153:24
 enum-known-t : tie.Need-enum-known-t Inv-loop μ-loop
 enum-known-t c = search needs
 
--- src/lib.rt:157:17
 enum-told : tie.Need-enum-told Inv-loop μ-loop
 enum-told c = search needs
 
--- src/lib.rt:157:17
 returns-2 : tie.Need-returns-2 Inv-loop μ-loop
 returns-2 c = search nets-bad
 
--- src/lib.rt:160:9
 sub-k : tie.Need-sub-k Inv-loop μ-loop
 sub-k c = omega arith
 
--- src/lib.rt:150:5
 loop-less : tie.Need-loop-less Inv-loop μ-loop
 loop-less c = omega arith
 
--- src/lib.rt:150:5
 loop-again : tie.Need-loop-again Inv-loop μ-loop
 loop-again c = (search nets-more, search net-within)
 
--- src/lib.rt:142:1
 returns-3 : tie.Need-returns-3 Inv-loop μ-loop
 returns-3 c = search nets-done
 

@@ -9,10 +9,6 @@ use borrow.Author.Needs.{needs}
 use native.Mathlib.Omega.{arith}
 use Rattle.wiring.proofs.alike_run.Statement.{statement}
 use Rattle.wiring.proofs.alike_run.Tie as tie
-use Rattle.wiring.proofs.alike_run.Reads as reads
-use Rattle.wiring.proofs.alike_run.Lts as lts
-use Rattle.fields.proofs.be16.Reads as be16-reads
-use Rattle.wiring.proofs.alike.Reads as alike-reads
 
 abbrev Inv-loop : tie.InvT-loop
 Inv-loop counts s from n at₀ k₀ at k = (all (alike counts) (pairsAt s at k) ≡ all (alike counts) (pairRun s from n)) × (at + 4 * k ≤ length s)
@@ -20,59 +16,45 @@ Inv-loop counts s from n at₀ k₀ at k = (all (alike counts) (pairsAt s at k) 
 abbrev μ-loop : tie.MeasureT-loop
 μ-loop counts s from n at₀ k₀ at k = k
 
--- src/lib.rt:150:9
 returns : tie.Need-returns Inv-loop μ-loop
 returns c = search alike-past
 
--- src/lib.rt:152:9
 sub-if2 : tie.Need-sub-if2 Inv-loop μ-loop
 sub-if2 c = omega arith
 
--- src/lib.rt:153:9
 returns-2 : tie.Need-returns-2 Inv-loop μ-loop
 returns-2 c = search alike-short
 
--- src/lib.rt:157:5
 loop-holds : tie.Need-loop-holds Inv-loop μ-loop
 loop-holds c = (search alike-start, omega arith)
 
--- src/lib.rt:158:13
 be16-requires : tie.Need-be16-requires Inv-loop μ-loop
 be16-requires c κs = search needs
 
--- src/lib.rt:159:33
 add-be16 : tie.Need-add-be16 Inv-loop μ-loop
 add-be16 c = omega arith
 
--- src/lib.rt:159:13
 be16-requires-2 : tie.Need-be16-requires-2 Inv-loop μ-loop
 be16-requires-2 c κs = search needs
 
--- src/lib.rt:160:12
 alike-requires : tie.Need-alike-requires Inv-loop μ-loop
 alike-requires c κs = search needs
 
--- src/lib.rt:161:13
 add-at : tie.Need-add-at Inv-loop μ-loop
 add-at c = omega arith
 
--- src/lib.rt:162:13
 sub-k : tie.Need-sub-k Inv-loop μ-loop
 sub-k c = omega arith
 
--- src/lib.rt:157:5
 loop-less : tie.Need-loop-less Inv-loop μ-loop
 loop-less c = omega arith
 
--- src/lib.rt:157:5
 loop-again : tie.Need-loop-again Inv-loop μ-loop
 loop-again c = let b = c .before .before .before .before .before in (alike-more _ _ _ _ _ _ _ (b .loop .k) (b .loop .inv .0) (omega arith) (c .before .before .before .be16 .ensures) (c .before .before .be162 .ensures) (c .before .alike .ensures) (c .if3 .taken), omega arith)
 
--- src/lib.rt:164:13
 returns-3 : tie.Need-returns-3 Inv-loop μ-loop
 returns-3 c = let b = c .before .before .before .before .before in alike-no _ _ (b .loop .at) (c .before .before .before .be16 .result) (c .before .before .be162 .result) _ _ (b .loop .k) (b .loop .inv .0) (omega arith) (c .before .before .before .be16 .ensures) (c .before .before .be162 .ensures) (c .before .alike .ensures) (c .if3 .left)
 
--- src/lib.rt:146:1
 returns-4 : tie.Need-returns-4 Inv-loop μ-loop
 returns-4 c = search alike-done
 

@@ -1,5 +1,5 @@
 use Rattle.wiring.specs.Steps.{tally-past, tally-short, tally-start, tally-more, tally-done}
-use Rattle.wiring.specs.Wiring.{run}
+use Rattle.ends.specs.Runs.{run}
 use Rattle.tally.specs.Tally.{tally}
 use Rattle.stored.specs.Stored.{numbersAt}
 use lib.ListN.{length}
@@ -9,10 +9,6 @@ use borrow.Author.Needs.{needs}
 use native.Mathlib.Omega.{arith}
 use Rattle.wiring.proofs.tally_run.Statement.{statement}
 use Rattle.wiring.proofs.tally_run.Tie as tie
-use Rattle.wiring.proofs.tally_run.Reads as reads
-use Rattle.wiring.proofs.tally_run.Lts as lts
-use Rattle.fields.proofs.be16.Reads as be16-reads
-use Rattle.tally.proofs.bump.Reads as bump-reads
 
 abbrev Inv-loop : tie.InvT-loop
 Inv-loop counts₀ base s from n at₀ k₀ counts at k = (tally counts base (numbersAt s at k) ≡ tally counts₀ base (run s from n)) × (length counts ≡ length counts₀) × (at + 2 * k ≤ length s)
@@ -20,51 +16,39 @@ Inv-loop counts₀ base s from n at₀ k₀ counts at k = (tally counts base (nu
 abbrev μ-loop : tie.MeasureT-loop
 μ-loop counts₀ base s from n at₀ k₀ counts at k = k
 
--- src/lib.rt:13:9
 returns : tie.Need-returns Inv-loop μ-loop
 returns c = search tally-past
 
--- src/lib.rt:15:9
 sub-if2 : tie.Need-sub-if2 Inv-loop μ-loop
 sub-if2 c = omega arith
 
--- src/lib.rt:16:9
 returns-2 : tie.Need-returns-2 Inv-loop μ-loop
 returns-2 c = search tally-short
 
--- src/lib.rt:20:5
 loop-holds : tie.Need-loop-holds Inv-loop μ-loop
 loop-holds c = (search tally-start, search needs, omega arith)
 
--- src/lib.rt:21:13
 be16-requires : tie.Need-be16-requires Inv-loop μ-loop
 be16-requires c κs = search needs
 
--- src/lib.rt:22:9
 bump-requires : tie.Need-bump-requires Inv-loop μ-loop
 bump-requires c κs = search needs
 
--- src/lib.rt:23:9
 add-at : tie.Need-add-at Inv-loop μ-loop
 add-at c = omega arith
 
--- src/lib.rt:24:9
 sub-k : tie.Need-sub-k Inv-loop μ-loop
 sub-k c = omega arith
 
--- src/lib.rt:20:5
 loop-less : tie.Need-loop-less Inv-loop μ-loop
 loop-less c = omega arith
 
--- src/lib.rt:20:5
 loop-again : tie.Need-loop-again Inv-loop μ-loop
 loop-again c = (search tally-more, omega arith, omega arith)
 
--- src/lib.rt:9:1
 same-length : tie.Need-same-length Inv-loop μ-loop
 same-length c = omega arith
 
--- src/lib.rt:9:1
 returns-3 : tie.Need-returns-3 Inv-loop μ-loop
 returns-3 c = search tally-done
 

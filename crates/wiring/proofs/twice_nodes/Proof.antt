@@ -6,10 +6,6 @@ use borrow.Author.Needs.{needs}
 use native.Mathlib.Omega.{arith}
 use Rattle.wiring.proofs.twice_nodes.Statement.{statement}
 use Rattle.wiring.proofs.twice_nodes.Tie as tie
-use Rattle.wiring.proofs.twice_nodes.Reads as reads
-use Rattle.wiring.proofs.twice_nodes.Lts as lts
-use Rattle.ends.proofs.node_end.Reads as node-end-reads
-use Rattle.wiring.proofs.twice_node.Reads as twice-node-reads
 
 abbrev Inv-loop : tie.InvT-loop
 Inv-loop counts base s from n at₀ k₀ at k = all (twice counts base) (nodesWires s at k) ≡ all (twice counts base) (nodesWires s from n)
@@ -17,35 +13,27 @@ Inv-loop counts base s from n at₀ k₀ at k = all (twice counts base) (nodesWi
 abbrev μ-loop : tie.MeasureT-loop
 μ-loop counts base s from n at₀ k₀ at k = k
 
--- src/lib.rt:127:5
 loop-holds : tie.Need-loop-holds Inv-loop μ-loop
 loop-holds c = search needs
 
--- src/lib.rt:128:12
 twice-node-requires : tie.Need-twice-node-requires Inv-loop μ-loop
 twice-node-requires c κs = search needs
 
--- src/lib.rt:129:13
 node-end-requires : tie.Need-node-end-requires Inv-loop μ-loop
 node-end-requires c κs = search needs
 
--- src/lib.rt:130:13
 sub-k : tie.Need-sub-k Inv-loop μ-loop
 sub-k c = omega arith
 
--- src/lib.rt:127:5
 loop-less : tie.Need-loop-less Inv-loop μ-loop
 loop-less c = omega arith
 
--- src/lib.rt:127:5
 loop-again : tie.Need-loop-again Inv-loop μ-loop
 loop-again c = search nodes-twice-more
 
--- src/lib.rt:132:13
 returns : tie.Need-returns Inv-loop μ-loop
 returns c = search nodes-twice-no
 
--- src/lib.rt:122:1
 returns-2 : tie.Need-returns-2 Inv-loop μ-loop
 returns-2 c = search nodes-twice-done
 

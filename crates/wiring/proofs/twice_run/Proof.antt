@@ -1,5 +1,6 @@
 use Rattle.wiring.specs.Steps.{twice-past, twice-short, twice-start, twice-more, twice-no, twice-done}
-use Rattle.wiring.specs.Wiring.{run, twice}
+use Rattle.ends.specs.Runs.{run}
+use Rattle.wiring.specs.Wiring.{twice}
 use Rattle.net_file.specs.Lists.{all}
 use Rattle.stored.specs.Stored.{numbersAt}
 use lib.ListN.{length}
@@ -9,10 +10,6 @@ use borrow.Author.Needs.{needs}
 use native.Mathlib.Omega.{arith}
 use Rattle.wiring.proofs.twice_run.Statement.{statement}
 use Rattle.wiring.proofs.twice_run.Tie as tie
-use Rattle.wiring.proofs.twice_run.Reads as reads
-use Rattle.wiring.proofs.twice_run.Lts as lts
-use Rattle.fields.proofs.be16.Reads as be16-reads
-use Rattle.words.proofs.get.Reads as get-reads
 
 abbrev Inv-loop : tie.InvT-loop
 Inv-loop counts base s from n at₀ k₀ at k = (all (twice counts base) (numbersAt s at k) ≡ all (twice counts base) (run s from n)) × (at + 2 * k ≤ length s)
@@ -20,59 +17,45 @@ Inv-loop counts base s from n at₀ k₀ at k = (all (twice counts base) (number
 abbrev μ-loop : tie.MeasureT-loop
 μ-loop counts base s from n at₀ k₀ at k = k
 
--- src/lib.rt:69:9
 returns : tie.Need-returns Inv-loop μ-loop
 returns c = search twice-past
 
--- src/lib.rt:71:9
 sub-if2 : tie.Need-sub-if2 Inv-loop μ-loop
 sub-if2 c = omega arith
 
--- src/lib.rt:72:9
 returns-2 : tie.Need-returns-2 Inv-loop μ-loop
 returns-2 c = search twice-short
 
--- src/lib.rt:76:5
 loop-holds : tie.Need-loop-holds Inv-loop μ-loop
 loop-holds c = (search twice-start, omega arith)
 
--- src/lib.rt:77:13
 be16-requires : tie.Need-be16-requires Inv-loop μ-loop
 be16-requires c κs = search needs
 
--- src/lib.rt:78:36
 cast-get : tie.Need-cast-get Inv-loop μ-loop
 cast-get c = search needs
 
--- src/lib.rt:78:13
 get-requires : tie.Need-get-requires Inv-loop μ-loop
 get-requires c κs = search needs
 
--- src/lib.rt:79:17
 add-if3 : tie.Need-add-if3 Inv-loop μ-loop
 add-if3 c = omega arith
 
--- src/lib.rt:80:13
 returns-3 : tie.Need-returns-3 Inv-loop μ-loop
 returns-3 c = search twice-no
 
--- src/lib.rt:82:9
 add-at : tie.Need-add-at Inv-loop μ-loop
 add-at c = omega arith
 
--- src/lib.rt:83:9
 sub-k : tie.Need-sub-k Inv-loop μ-loop
 sub-k c = omega arith
 
--- src/lib.rt:76:5
 loop-less : tie.Need-loop-less Inv-loop μ-loop
 loop-less c = omega arith
 
--- src/lib.rt:76:5
 loop-again : tie.Need-loop-again Inv-loop μ-loop
 loop-again c = (search twice-more, omega arith)
 
--- src/lib.rt:65:1
 returns-4 : tie.Need-returns-4 Inv-loop μ-loop
 returns-4 c = search twice-done
 

@@ -2,45 +2,31 @@ use Rattle.wiring_tree.specs.Wiring.{twice-no, twice-yes, twice-node}
 use borrow.Author.Needs.{needs}
 use Rattle.wiring_tree.proofs.twice_tree.Statement.{statement}
 use Rattle.wiring_tree.proofs.twice_tree.Tie as tie
-use Rattle.wiring_tree.proofs.twice_tree.Reads as reads
-use Rattle.wiring_tree.proofs.twice_tree.Lts as lts
-use Rattle.fields.proofs.be16.Reads as be16-reads
-use Rattle.fields.proofs.byte.Reads as byte-reads
-use Rattle.words.proofs.get.Reads as get-reads
 
--- src/lib.rt:58:8
 byte-requires : tie.Need-byte-requires
 byte-requires c κs = search needs
 
--- src/lib.rt:59:33
 add-be16 : tie.Need-add-be16
 add-be16 c = search needs
 
--- src/lib.rt:59:13
 be16-requires : tie.Need-be16-requires
 be16-requires c κs = search needs
 
--- src/lib.rt:60:36
 cast-get : tie.Need-cast-get
 cast-get c = search needs
 
--- src/lib.rt:60:13
 get-requires : tie.Need-get-requires
 get-requires c κs = search needs
 
--- src/lib.rt:61:17
 add-if2 : tie.Need-add-if2
 add-if2 c = search needs
 
--- src/lib.rt:62:13
 returns : tie.Need-returns
 returns c = search twice-no
 
--- src/lib.rt:54:1
 returns-2 : tie.Need-returns-2
 returns-2 c = search twice-yes
 
--- src/lib.rt:54:1
 returns-3 : tie.Need-returns-3
 returns-3 c = search twice-node
 

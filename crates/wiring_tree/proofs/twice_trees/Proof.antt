@@ -6,11 +6,6 @@ use Rattle.scan_tree.specs.Count.{runs-less}
 use Rattle.wiring_tree.specs.Wiring.{Decides, decides-begin, decides-more, decides-no, decides-done}
 use Rattle.wiring_tree.proofs.twice_trees.Statement.{statement}
 use Rattle.wiring_tree.proofs.twice_trees.Tie as tie
-use Rattle.wiring_tree.proofs.twice_trees.Reads as reads
-use Rattle.wiring_tree.proofs.twice_trees.Lts as lts
-use Rattle.scan_tree.proofs.begin.Reads as begin-reads
-use Rattle.scan_tree.proofs.step.Reads as step-reads
-use Rattle.wiring_tree.proofs.twice_tree.Reads as twice-tree-reads
 
 abbrev Inv-loop : tie.InvT-loop
 Inv-loop counts base s from k c₀ c = Decides s from k counts base c
@@ -18,35 +13,27 @@ Inv-loop counts base s from k c₀ c = Decides s from k counts base c
 abbrev μ-loop : tie.MeasureT-loop
 μ-loop counts base s from k c₀ c = length s - c .at
 
--- src/lib.rt:72:9
 begin-requires : tie.Need-begin-requires Inv-loop μ-loop
 begin-requires c κs = search needs
 
--- src/lib.rt:73:5
 loop-holds : tie.Need-loop-holds Inv-loop μ-loop
 loop-holds c = search decides-begin
 
--- src/lib.rt:76:12
 twice-tree-requires : tie.Need-twice-tree-requires Inv-loop μ-loop
 twice-tree-requires c κs = omega arith
 
--- src/lib.rt:77:13
 step-requires : tie.Need-step-requires Inv-loop μ-loop
 step-requires c κs = search needs
 
--- src/lib.rt:73:5
 loop-less : tie.Need-loop-less Inv-loop μ-loop
 loop-less c = search runs-less
 
--- src/lib.rt:73:5
 loop-again : tie.Need-loop-again Inv-loop μ-loop
 loop-again c = search decides-more
 
--- src/lib.rt:79:13
 returns : tie.Need-returns Inv-loop μ-loop
 returns c = search decides-no
 
--- src/lib.rt:69:1
 returns-2 : tie.Need-returns-2 Inv-loop μ-loop
 returns-2 c = search decides-done
 
