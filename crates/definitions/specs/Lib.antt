@@ -1,0 +1,15 @@
+pub mod Lists
+pub mod Nets
+pub mod Scripts
+pub mod Rules
+pub mod Step
+pub mod State
+pub mod Books
+pub mod Load
+pub mod Visit
+pub mod Run
+pub mod Finish
+pub mod Calls
+pub mod Text
+pub mod Listing
+pub mod Computes
