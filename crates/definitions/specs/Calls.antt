@@ -105,3 +105,9 @@ optimize w p room bs = elim (accept w p bs) [
 unfoldable pub written : Result (List ℕ) → List ℕ → List ℕ
 written (refuse r) out = out
 written (ok bs) out = bs ++ drop (length bs) out
+
+-- the workspace that the next call finds; zeros are no image
+unfoldable pub after : Workspace → Left → Workspace
+after w unchanged = w
+after w (zeros n) = record { fits = w .fits; held = none }
+after w (image h) = record { fits = w .fits; held = some h }

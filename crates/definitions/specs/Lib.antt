@@ -13,3 +13,4 @@ pub mod Calls
 pub mod Text
 pub mod Listing
 pub mod Computes
+pub mod Sharp

@@ -1,5 +1,5 @@
--- Text as bytes: quoted words, decimal numbers, lines.
-use Prim.Native.Nat.{ℕ, zero, suc, _+_, _/_, _%_}
+-- Text as bytes: quoted words, decimal numbers, lines; and bytes quoted in hexadecimal.
+use Prim.Native.Nat.{ℕ, zero, suc, _+_, _*_, _-_, _/_, _%_}
 use Prim.Native.Char.{code}
 use Prim.Native.String.{String, [] as []ˢ, _∷_ as _∷ˢ_}
 use mathlib.Core.Bool.{true, false}
@@ -24,3 +24,15 @@ unfoldable pub line : List (List ℕ) → List ℕ
 line [] = 10 ∷ []
 line (w ∷ []) = w ++ 10 ∷ []
 line (w ∷ v ∷ ws) = w ++ 32 ∷ line (v ∷ ws)
+
+unfoldable pub hexDigit : ℕ → ℕ
+hexDigit c = elim (ltb c 58) [ true ↦ c - 48 | false ↦ c - 87 ]
+
+-- a file as the documents quote it
+unfoldable pub hexBytes : List ℕ → List ℕ
+hexBytes [] = []
+hexBytes (a ∷ []) = []
+hexBytes (a ∷ b ∷ cs) = (16 * hexDigit a + hexDigit b) ∷ hexBytes cs
+
+unfoldable pub hex : String → List ℕ
+hex s = hexBytes (text s)
