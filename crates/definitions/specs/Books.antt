@@ -17,6 +17,7 @@ use Rattle.definitions.specs.State.{Ids, Wait, Net, Engine, graphOf, wit
 unfoldable pub grown : ℕ → ℕ → ℕ
 grown capacity length′ = cond (eqb length′ capacity) (cond (eqb capacity 0) 4 (2 * capacity)) capacity
 
+-- at the end
 unfoldable pub push : ℕ → Ids → Ids
 push n l = record { items = l .items ++ n ∷ []; capacity = grown (l .capacity) (length (l .items)); stale = l .stale }
 
@@ -28,9 +29,11 @@ tight live l = record { items = firsts eqb [] (keep live (l .items)); capacity =
 unfoldable pub loose : Ids → Bool
 loose l = leb (l .capacity) (2 * l .stale)
 
+-- its mark
 unfoldable pub isDirty : Engine → ℕ → Bool
 isDirty e n = getD (e .slots .marks) n false
 
+-- in the dirty list a number is live while its slot holds a dirty node
 unfoldable pub tightenDirty : Engine → Engine
 tightenDirty e = withDirty (tight (isDirty e) (e .dirty)) e
 
@@ -40,6 +43,7 @@ tightenNet k e = overNet (λ n. withList (tight (holds (graphOf e) k) (n .list))
 
 -- ---- marks
 
+-- an entry in the dirty list
 unfoldable pub pushDirty : ℕ → Engine → Engine
 pushDirty n e = withDirty (push n (e .dirty)) e
 
@@ -68,6 +72,7 @@ addNode mark n x e =
     need (ltb (count isSome (graphOf e)) (e .pools .nodes)) 9
     (need (ltb (entries e) (e .pools .entries)) 10 (ok (placed mark n x e)))
 
+-- the first argument's end, then the second's; a circle marks none
 unfoldable pub markEnds : Option (Port × Port) → Engine → Engine
 markEnds none e = e
 markEnds (some p) e = markDirty (p .1 .node) (markDirty (p .0 .node) e)

@@ -42,6 +42,7 @@ Outcome A = Result A × Left
 unfoldable pub poolsFit : Pools → Bool
 poolsFit p = leb 1 (p .nodes) && leb (p .nodes) 4096 && leb 1 (p .entries) && leb (p .entries) 16384 && leb (p .waits) 4096
 
+-- all three alike
 unfoldable pub samePools : Pools → Pools → Bool
 samePools p q = eqb (p .nodes) (q .nodes) && eqb (p .entries) (q .entries) && eqb (p .waits) (q .waits)
 

@@ -32,6 +32,7 @@ unfoldable pub engineComputes : ℕ
 unfolding State.withSlots State.withDirty State.withNets State.withSteps State.withGraph State.withMark State.withStale State.withList State.withPending State.withAwaiting State.netAt State.overNet State.more State.fewer State.entries State.waits Books.grown Books.push Books.tight Books.loose Books.isDirty Books.tightenDirty Books.tightenNet Books.pushDirty Books.markDirty Books.fresh Books.placed Books.addNode Books.markEnds Books.link Books.edit Books.vacated Books.wentDirty Books.removeNode Books.finishEdit Books.wake Books.answer Books.finishEditNet Load.withFreePath Load.freeName Load.canonical Load.endsAt Load.joinMet Load.loadNodes Load.loadNet Load.addFlatNet Load.empty Load.included Load.load Visit.lessOne Visit.act Visit.actIf Visit.awaitNet Visit.graftNet Visit.getNet Visit.graftNamed Visit.graftChild Visit.tryGraft Visit.tryPair Visit.interactions Visit.tries Visit.tryRewrite Visit.attempt Visit.attempts Visit.visit Run.leave Run.turn Run.withItems Run.spent Run.next Run.run Run.fuel Run.runSlice Finish.lower Finish.wireAt Finish.wiresMet Finish.wireNumber Finish.flatNode Finish.liveNodes Finish.flatNet Finish.finishNet Finish.result Calls.poolsFit Calls.samePools Calls.accept Calls.resume Calls.deliver Calls.begin Calls.slice Calls.finish Calls.optimized Calls.optimize Calls.written Calls.after Text.text Text.digits Text.decimal Text.line Text.hexDigit Text.hexBytes Text.hex Listing.nodeLine Listing.netLines Listing.limitField Listing.listing Listing.printed Listing.listed Listing.netlist
 engineComputes = 0
 
+-- all of it
 unfoldable pub computes : ℕ
 unfolding fileComputes graphComputes engineComputes
 computes = 0

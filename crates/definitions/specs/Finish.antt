@@ -15,6 +15,7 @@ use Rattle.definitions.specs.Books.{tight}
 use Rattle.definitions.specs.Load.{withFreePath, included}
 use Rattle.definitions.specs.Visit.{getNet}
 
+-- by node, then by index
 unfoldable pub lower : Port → Port → Port
 lower p q = cond (ltb (p .node) (q .node) || (eqb (p .node) (q .node) && leb (p .index) (q .index))) p q
 
@@ -30,9 +31,11 @@ wiresMet g ids = firsts samePort [] (map (wireAt g) (concatMap (ports g) ids))
 unfoldable pub wireNumber : Graph → List Port → Port → ℕ
 wireNumber g met p = place (samePort (wireAt g p)) met
 
+-- its ports in order, as wire numbers
 unfoldable pub flatNode : Graph → List Port → ℕ → FlatNode
 flatNode g met n = record { name = nameOf g n; pri = wireNumber g met (port n 0); aux = map (wireNumber g met) (aux g n) }
 
+-- net k's nodes in list order
 unfoldable pub liveNodes : Engine → ℕ → List ℕ
 liveNodes e k = tight (holds (graphOf e) k) (netAt e k .list) .items
 

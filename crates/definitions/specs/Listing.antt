@@ -19,15 +19,18 @@ nodeLine paths n = line
     (getD paths (n .name .path) [] ∷ decimal (n .name .payload) ∷ text "children" ∷ map decimal (n .name .children)
     ++ text "ports" ∷ map decimal (n .pri ∷ n .aux))
 
+-- a net's line, and one for each of its nodes
 unfoldable pub netLines : List (List ℕ) → FlatNet → List ℕ
 netLines paths t =
     line (text "net" ∷ decimal (t .name) ∷ text "wires" ∷ decimal (t .wires) ∷ text "free" ∷ map decimal (t .free))
     ++ concatMap (nodeLine paths) (t .nodes)
 
+-- "the steps left or `none`"
 unfoldable pub limitField : Option ℕ → List ℕ
 limitField none = text "none"
 limitField (some n) = decimal n
 
+-- the whole text
 unfoldable pub listing : File FlatNet → List ℕ
 listing f = line (text "limit" ∷ limitField (f .limit) ∷ []) ++ concatMap (netLines (f .paths)) (f .nets)
 

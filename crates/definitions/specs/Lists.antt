@@ -18,10 +18,12 @@ module _ {A : Type 0} where
   given true a = some a
   given false a = none
 
+  -- the value, or d
   abbrev pub orElse : Option A → A → A
   orElse none d = d
   orElse (some a) d = a
 
+  -- there is a value
   abbrev pub isSome : Option A → Bool
   isSome none = false
   isSome (some a) = true
@@ -57,6 +59,7 @@ module _ {A : Type 0} where
   unsnoc [] = none
   unsnoc (x ∷ xs) = elim (unsnoc xs) [ none ↦ some ([], x) | some p ↦ some (x ∷ p .0, p .1) ]
 
+  -- one list after the other
   abbrev pub concat : List (List A) → List A
   concat [] = []
   concat (xs ∷ xss) = xs ++ concat xss
@@ -87,5 +90,6 @@ from k (suc n) = k ∷ from (suc k) n
 abbrev pub upTo : ℕ → List ℕ
 upTo n = from 0 n
 
+-- x is in the list
 abbrev pub has : List ℕ → ℕ → Bool
 has xs x = any (eqb x) xs

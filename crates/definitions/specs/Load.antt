@@ -19,6 +19,7 @@ use Rattle.definitions.specs.Books.{fresh, edit}
 unfoldable pub withFreePath : List (List ℕ) → List (List ℕ)
 withFreePath ps = elim (any (eqs freePath) ps) [ true ↦ ps | false ↦ ps ++ freePath ∷ [] ]
 
+-- the name of every free node
 unfoldable pub freeName : List (List ℕ) → Name
 freeName ps = record { path = place (eqs freePath) (withFreePath ps); payload = 0; children = [] }
 
@@ -49,12 +50,14 @@ loadNodes fresh′ t k met j (x ∷ xs) =
     let ends = endsAt t (fresh′ j) 0 (x .pri ∷ x .aux) in
     Insert (fresh′ j) (new k (x .name) (length ends)) ∷ joinMet met ends ++ loadNodes fresh′ t k (ends ++ met) (1 + j) xs
 
+-- the free node, its own wire, the free wires, the nodes
 unfoldable pub loadNet : (ℕ → ℕ) → Name → ℕ → FlatNet → List Edit
 loadNet fresh′ free k t =
     let f = fresh′ 0 in
     let ends = endsAt t f 2 (t .free) in
     Insert f (new k free (2 + length (t .free))) ∷ Join (port f 0) (port f 1) ∷ joinMet [] ends ++ loadNodes fresh′ t k ends 1 (t .nodes)
 
+-- one net more, loaded
 unfoldable pub addFlatNet : Name → FlatNet → Engine → Result Engine
 addFlatNet free t e =
     each edit (loadNet (fresh e) free (length (e .nets)) t)
@@ -72,6 +75,7 @@ empty p f = record {
   steps = 0;
 }
 
+-- those that are marked
 unfoldable pub included : File FlatNet → List FlatNet
 included f = keep (λ t. t .included) (f .nets)
 

@@ -29,12 +29,15 @@ pub record Home : Type 0 where
   pub name : ℕ
   pub free : ℕ
 
+-- port i of node n
 abbrev pub port : ℕ → ℕ → Port
 port n i = record { node = n; index = i }
 
+-- one port, not two
 unfoldable pub samePort : Port → Port → Bool
 samePort p q = eqb (p .node) (q .node) && eqb (p .index) (q .index)
 
+-- index 0
 unfoldable pub isPrincipal : Port → Bool
 isPrincipal p = eqb (p .index) 0
 
@@ -42,6 +45,7 @@ isPrincipal p = eqb (p .index) 0
 abbrev pub nowhere : Node
 nowhere = record { net = 0; name = record { path = 0; payload = 0; children = [] }; ports = [] }
 
+-- the node with number n
 unfoldable pub at : Graph → ℕ → Node
 at g n = orElse (getD g n none) nowhere
 
@@ -53,9 +57,11 @@ filled g n = isSome (getD g n none)
 unfoldable pub holds : Graph → ℕ → ℕ → Bool
 holds g k n = elim (getD g n none) [ none ↦ false | some x ↦ eqb (x .net) k ]
 
+-- node n's name
 unfoldable pub nameOf : Graph → ℕ → Name
 nameOf g n = at g n .name
 
+-- how many ports it has
 unfoldable pub arity : Graph → ℕ → ℕ
 arity g n = length (at g n .ports)
 

@@ -71,9 +71,11 @@ module _ (fresh : ℕ → ℕ) (g : Graph) where
       let n = follow g q .node in
       eqb (arity g m) 1 && eqb (arity g n) 1 && sameName (nameOf g m) (nameOf g n) && has nils (nameOf g m .path)
 
+  -- the wire between them, or those to their nils, is cut
   unfoldable pub etaCuts : Port → Port → List Edit
   etaCuts p q = elim (straight p q) [ true ↦ Cut p q ∷ [] | false ↦ Cut p (follow g p) ∷ Cut q (follow g q) ∷ [] ]
 
+  -- the nils that go
   unfoldable pub etaNils : Port → Port → List ℕ
   etaNils p q = elim (straight p q) [ true ↦ [] | false ↦ follow g p .node ∷ follow g q .node ∷ [] ]
 
@@ -92,6 +94,7 @@ module _ (fresh : ℕ → ℕ) (g : Graph) where
   etaMet values nils a none = etaValues (values ++ nils) a
   etaMet values nils a (some q) = etaPair nils a (q .node)
 
+  -- without aux ports it does not act
   unfoldable pub etaScript : List ℕ → List ℕ → ℕ → Option Script
   etaScript values nils a = elim (aux g a) [
     | [] ↦ none

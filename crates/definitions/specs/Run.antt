@@ -23,9 +23,11 @@ turn n e = elim (isDirty e n) [
   | false ↦ ok (passed (withDirty (withStale (e .dirty .stale - 1) (e .dirty)) e))
 ]
 
+-- the dirty list with these entries
 unfoldable pub withItems : List ℕ → Engine → Engine
 withItems ns e = withDirty (record { items = ns; capacity = e .dirty .capacity; stale = e .dirty .stale }) e
 
+-- no steps over; a none never is
 unfoldable pub spent : Option ℕ → Bool
 spent none = false
 spent (some n) = eqb n 0

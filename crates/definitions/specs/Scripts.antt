@@ -48,6 +48,7 @@ pub data Edit : Type 0 where
   Join : Port → Port → Edit
   Cut : Port → Port → Edit
 
+-- one edit
 unfoldable pub apply : Graph → Edit → Graph
 apply g (Insert n x) = fill g n x
 apply g (Copy n x) = fill g n x
@@ -59,5 +60,6 @@ pub record Script : Type 0 where
   pub edits : List Edit
   pub dead : List ℕ
 
+-- the whole script
 unfoldable pub applyScript : Graph → Script → Graph
 applyScript g s = foldl vacate (foldl apply g (s .edits)) (s .dead)

@@ -14,6 +14,7 @@ use Rattle.definitions.specs.Nets.{Port, Graph, Home, port, at, filled, 
 use Rattle.definitions.specs.Scripts.{Script, applyScript}
 use Rattle.definitions.specs.Rules.{etaScript, graftScript, graftFits, reaches, interact}
 
+-- the first list is the outer loop
 unfoldable pub cross : List ℕ → List ℕ → List (ℕ × ℕ)
 cross xs ys = concatMap (λ x. map (λ y. (x, y)) ys) xs
 

@@ -11,6 +11,7 @@ unfoldable pub text : String → List ℕ
 text []ˢ = []
 text (c ∷ˢ s) = code c ∷ text s
 
+-- at most k digits
 unfoldable pub digits : ℕ → ℕ → List ℕ
 digits zero n = []
 digits (suc k) n = elim (ltb n 10) [ true ↦ (48 + n) ∷ [] | false ↦ digits k (n / 10) ++ (48 + n % 10) ∷ [] ]
@@ -25,6 +26,7 @@ line [] = 10 ∷ []
 line (w ∷ []) = w ++ 10 ∷ []
 line (w ∷ v ∷ ws) = w ++ 32 ∷ line (v ∷ ws)
 
+-- 0 to 9, a to f
 unfoldable pub hexDigit : ℕ → ℕ
 hexDigit c = elim (ltb c 58) [ true ↦ c - 48 | false ↦ c - 87 ]
 
@@ -34,5 +36,6 @@ hexBytes [] = []
 hexBytes (a ∷ []) = []
 hexBytes (a ∷ b ∷ cs) = (16 * hexDigit a + hexDigit b) ∷ hexBytes cs
 
+-- of a quoted text
 unfoldable pub hex : String → List ℕ
 hex s = hexBytes (text s)

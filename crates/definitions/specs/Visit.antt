@@ -30,6 +30,7 @@ unfoldable pub act : Script → Engine → Result Visited
 act s e = need (ltb (e .steps) maxSteps) 14
     (each edit (s .edits) e >>= λ e′. ok (acted (withSteps (lessOne (e′ .limit)) (e′ .steps + 1) (finishEdit (s .dead) e′))))
 
+-- none where the rule does not act
 unfoldable pub actIf : Option Script → Engine → Result Visited
 actIf none e = ok (passed e)
 actIf (some s) e = act s e
@@ -51,6 +52,7 @@ graftNet m n e =
     act (graftScript (fresh e₁) (graphOf e₁) (netAt e₁ m .list .items) free n) e₁ >>= λ v.
     need (graftFits (graphOf e₁) free n) 13 (ok v)
 
+-- the included net of this name
 unfoldable pub getNet : Engine → ℕ → Option ℕ
 getNet e name = find (λ k. eqb (netAt e k .home .name) name) (upTo (length (e .nets)))
 
@@ -64,6 +66,7 @@ unfoldable pub graftChild : List ℕ → ℕ → Engine → Result Visited
 graftChild [] n e = refuse 12
 graftChild (c ∷ cs) n e = graftNamed (getNet e c) n e
 
+-- a graft that does not reach passes
 unfoldable pub tryGraft : Bool → ℕ → Engine → Result Visited
 tryGraft lazy n e = elim (reaches (graphOf e) lazy n) [
   | true ↦ graftChild (nameOf (graphOf e) n .children) n e
@@ -100,6 +103,7 @@ tries rs g n =
     interactions rs g n (follow g (port n 0))
     ++ concatMap (λ r. map (λ p. rewrite r n) (keep (eqb (nameOf g n .path)) (rewrites r))) rs
 
+-- graft and eta are the rewrites
 unfoldable pub tryRewrite : Rule → ℕ → Engine → Result Visited
 tryRewrite (graft p lazy) n e = tryGraft lazy n e
 tryRewrite (annihilate ps) n e = ok (passed e)
@@ -107,6 +111,7 @@ tryRewrite (erase es ns) n e = ok (passed e)
 tryRewrite (commute xs ys) n e = ok (passed e)
 tryRewrite (eta cs vs ns) n e = actIf (etaScript (fresh e) (graphOf e) vs ns n) e
 
+-- one rule on its nodes
 unfoldable pub attempt : Try → Engine → Result Visited
 attempt (interaction r a b) e = actIf (interact r (fresh e) (graphOf e) a b) e
 attempt (rewrite r n) e = tryRewrite r n e
@@ -116,5 +121,6 @@ unfoldable pub attempts : List Try → Engine → Result Visited
 attempts [] e = ok (passed e)
 attempts (t ∷ ts) e = attempt t e >>= λ v. elim v as (λ _. Result Visited) [ acted e′ ↦ ok (acted e′) | passed e′ ↦ attempts ts e′ ]
 
+-- the rules for node n, in order
 unfoldable pub visit : ℕ → Engine → Result Visited
 visit n e = attempts (tries (e .rules) (graphOf e) n) e
