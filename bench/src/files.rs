@@ -1,7 +1,7 @@
 //! The files that are measured, each with its answer. Numbers that look random come from one fixed generator, so every run has
 //! the same files.
 
-use crate::measure::{check, FLAT, TREE};
+use crate::measure::check;
 use crate::net::*;
 
 pub struct Case {

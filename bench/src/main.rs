@@ -1,25 +1,14 @@
 //! How long the checkers take, as Markdown tables. See docs/BENCHMARKS.md.
 
+mod clock;
 mod files;
 mod measure;
 mod net;
 
+use clock::grouped;
 use files::Case;
-use measure::{check, measure, Times, FLAT, TREE};
-
-/// A whole number with a comma before every three digits.
-fn grouped(x: f64) -> String {
-    let (sign, x) = if x < 0.0 { ("-", -x) } else { ("", x) };
-    let digits = format!("{x:.0}");
-    let mut out = String::from(sign);
-    for (i, d) in digits.chars().enumerate() {
-        if i > 0 && (digits.len() - i) % 3 == 0 {
-            out.push(',');
-        }
-        out.push(d);
-    }
-    out
-}
+use measure::{check, measure, Times};
+use net::{FLAT, TREE};
 
 fn answered(answer: u32) -> String {
     match answer {

@@ -1,16 +1,14 @@
-//! The two checkers of the static library, a plain scan to hold them against, and the clock.
+//! The two checkers of the static library, and a plain scan to hold them against.
 
+use crate::clock::{calls, run, RUNS};
+use crate::net::TREE;
 use std::hint::black_box;
-use std::time::Instant;
 
 // As include/ivy_check.h declares them: the pointer, and the number of bytes.
 extern "C" {
     fn ivy_check_flat(file: *const u8, length: usize) -> u32;
     fn ivy_check_tree(file: *const u8, length: usize) -> u32;
 }
-
-pub const FLAT: u8 = 1;
-pub const TREE: u8 = 65;
 
 /// 0 where the file is accepted, else the number it is refused by.
 pub fn check(version: u8, file: &[u8]) -> u32 {
@@ -26,26 +24,6 @@ pub fn check(version: u8, file: &[u8]) -> u32 {
 #[inline(never)]
 pub fn scan(file: &[u8]) -> u64 {
     file.iter().map(|&b| b as u64).sum()
-}
-
-const RUNS: usize = 9;
-const LEAST_NANOSECONDS: f64 = 2e6;
-
-fn run(times: usize, f: &mut impl FnMut()) -> f64 {
-    let start = Instant::now();
-    for _ in 0..times {
-        f();
-    }
-    start.elapsed().as_nanos() as f64
-}
-
-/// How many calls take 2 ms at least.
-fn calls(mut f: impl FnMut()) -> usize {
-    let mut times = 1;
-    while run(times, &mut f) < LEAST_NANOSECONDS {
-        times *= 2;
-    }
-    times
 }
 
 /// Nanoseconds of one call.

@@ -1,7 +1,7 @@
 //! Writes net files field by field, as docs/FORMAT.md lists them. It checks nothing: bad files are written with it too.
 
-use crate::measure::FLAT;
-
+pub const FLAT: u8 = 1;
+pub const TREE: u8 = 65;
 pub const FREE_PATH: &[u8] = b"ivy:engine:free";
 
 pub struct File {

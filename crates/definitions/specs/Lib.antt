@@ -14,3 +14,4 @@ pub mod Text
 pub mod Listing
 pub mod Computes
 pub mod Sharp
+pub mod SharpBooks

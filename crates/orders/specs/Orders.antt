@@ -3,19 +3,23 @@
 use Prim.Native.Nat.{ℕ, zero, suc, _+_}
 use mathlib.Core.Bool.{Bool, true, false}
 use mathlib.Core.List.{List, [], _∷_}
-use lib.ListN.{getD, replicate}
+use lib.ListN.{getD, set, replicate}
 use lib.Dec.{leb, ltb}
 use Rattle.words.specs.Choose.{pick, if-lt}
 use Rattle.words.specs.Left.{Left}
 use Rattle.fields.specs.Fields.{be16}
 use Rattle.stored.specs.Stored.{flatNetEnd}
 use Rattle.ends.specs.Ends.{within}
-use Rattle.tally.specs.Tally.{bump}
 use Rattle.wiring.specs.Wiring.{netPairs}
+use Rattle.wiring.specs.Fits.{fits}
 
 -- w was seen since the base
 unfoldable pub marked : List ℕ → ℕ → ℕ → Bool
 marked counts base w = ltb base (getD counts w 0)
+
+-- w is seen from now on
+abbrev pub mark : List ℕ → ℕ → ℕ → List ℕ
+mark counts base w = set counts w (base + 1)
 
 -- a is not below last, a is below b, and neither was seen
 unfoldable pub pairFits : List ℕ → ℕ → ℕ → ℕ → ℕ → Bool
@@ -29,7 +33,7 @@ pairFits counts base last a b =
 unfoldable pub pairStep : List ℕ → ℕ → ℕ → ℕ → ℕ → Left Bool
 pairStep counts base last a b =
     pick (pairFits counts base last a b)
-    (record { is = true; ws = bump (bump counts base a) base b })
+    (record { is = true; ws = mark (mark counts base a) base b })
     (record { is = false; ws = counts })
 
 -- whether all fit, and the counts at the end or at the first that does not
@@ -51,14 +55,18 @@ netOrdered counts base last s at =
     (pairsFrom counts base 0 (netPairs s at))
     (record { is = false; ws = counts })
 
--- each net above a base of its own
-unfoldable pub netsFrom : List ℕ → ℕ → ℕ → List ℕ → ℕ → ℕ → Bool
-netsFrom counts base last s at zero = true
-netsFrom counts base last s at (suc n) =
+-- each net above a base of its own; from the first on that does not fit the counts, `wide` tells
+unfoldable pub netsFrom : (ℕ → ℕ → ℕ → Bool) → List ℕ → ℕ → ℕ → List ℕ → ℕ → ℕ → Bool
+netsFrom wide counts base last s at zero = true
+netsFrom wide counts base last s at (suc n) =
     let x = netOrdered counts base last s at in
-    let r = netsFrom (x .ws) (base + 4) (be16 s at + 1) s (within s (flatNetEnd s at)) n in
-    pick (x .is) r false
+    let r = netsFrom wide (x .ws) (base + 4) (be16 s at + 1) s (within s (flatNetEnd s at)) n in
+    pick (fits counts s at) (pick (x .is) r false) (wide last at (suc n))
 
--- at most 256 nets
+-- at most 256 nets, 65,536 words: no net that is read has more wires
+unfoldable pub netsWide : List ℕ → ℕ → ℕ → ℕ → Bool
+netsWide s last at n = if-lt 256 n false (netsFrom (λ l a k. false) (replicate 65536 0) 0 last s at n)
+
+-- at most 256 nets, 1,024 words
 unfoldable pub netsOrdered : List ℕ → ℕ → ℕ → Bool
-netsOrdered s at n = if-lt 256 n false (netsFrom (replicate 65536 0) 0 0 s at n)
+netsOrdered s at n = if-lt 256 n false (netsFrom (netsWide s) (replicate 1024 0) 0 0 s at n)

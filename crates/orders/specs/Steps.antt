@@ -8,14 +8,14 @@ use native.Mathlib.Numerals.{sub-one}
 use native.Mathlib.Nat.{not-suc-le-zero}
 use lib.ListN.{length, getD, replicate}
 use lib.Dec.{leb, ltb}
-use Rattle.words.specs.Choose.{pick, lt-yes, lt-no}
+use Rattle.words.specs.Choose.{pick, lt-yes, lt-no, pick-true, pick-false}
 use Rattle.words.specs.Left.{Left, whole}
 use Rattle.fields.specs.Fields.{be16}
 use Rattle.stored.specs.Stored.{tableAt, pairAt, pairsAt, pairCountAt, flatNetEnd}
 use Rattle.ends.specs.Ends.{within, on}
-use Rattle.tally.specs.Tally.{bump}
 use Rattle.wiring.specs.Wiring.{pairRun, netPairs}
-use Rattle.orders.specs.Orders.{marked, pairFits, pairStep, pairsFrom, nameFits, netOrdered, netsFrom, netsOrdered}
+use Rattle.wiring.specs.Fits.{fits}
+use Rattle.orders.specs.Orders.{marked, mark, pairFits, pairStep, pairsFrom, nameFits, netOrdered, netsFrom, netsWide, netsOrdered}
 
 -- ---- one pair
 
@@ -24,7 +24,7 @@ unfolding marked
 marked-is counts base w c e = ap (ltb base) e
 
 module _ (counts : List ℕ) (base last a b : ℕ) (t : Bool) (et : t ≡ pairFits counts base last a b) where
-  pub step-yes : (c d : List ℕ) → t ≡ true → c ≡ bump counts base a → d ≡ bump c base b → record { is = true; ws = d } ≡ pairStep counts base last a b
+  pub step-yes : (c d : List ℕ) → t ≡ true → c ≡ mark counts base a → d ≡ mark c base b → record { is = true; ws = d } ≡ pairStep counts base last a b
   unfolding pairStep pick
   step-yes c d y ec ed = rw (← et, y, ed, ec)
 
@@ -95,30 +95,43 @@ module _ (s counts : List ℕ) (base last at : ℕ) (t : Bool) (et : t ≡ nameF
 
 -- ---- nets
 
-module _ (s counts c : List ℕ) (base last at : ℕ) (x t : Bool) where
-  pub nets-more : (a m k : ℕ) → netsFrom counts base last s at k ≡ x → 0 < k → t ≡ netOrdered counts base last s at .is → c ≡ netOrdered counts base last s at .ws → t ≡ true
-      → m ≡ be16 s at → a ≡ within s (flatNetEnd s at) → netsFrom c (base + 4) (m + 1) s a (k - 1) ≡ x
-  unfolding netsFrom pick
-  nets-more a m zero g h et ec y em ea = absurd (not-suc-le-zero h)
-  nets-more a m (suc k) g h et ec y em ea =
-      let w : netOrdered counts base last s at .is ≡ true = sym et ∙ y in
-      rw (sub-one, ec, em, ea) (rw w at g)
+module _ (wide : ℕ → ℕ → ℕ → Bool) (s counts : List ℕ) (base last at : ℕ) (x f : Bool) (ef : f ≡ fits counts s at) where
+  -- a net that does not fit
+  pub nets-unfit : (k : ℕ) (r : Bool) → netsFrom wide counts base last s at k ≡ x → 0 < k → f ≡ false → r ≡ wide last at k → r ≡ x
+  unfolding netsFrom
+  nets-unfit zero r g h n er = absurd (not-suc-le-zero h)
+  nets-unfit (suc k) r g h n er = pick-false _ _ _ (sym ef ∙ n) er ∙ g
 
-  pub nets-no : (k : ℕ) → netsFrom counts base last s at k ≡ x → 0 < k → t ≡ netOrdered counts base last s at .is → t ≡ false → false ≡ x
-  unfolding netsFrom pick
-  nets-no zero g h et y = absurd (not-suc-le-zero h)
-  nets-no (suc k) g h et y = let w : netOrdered counts base last s at .is ≡ false = sym et ∙ y in rw w at g
+  module _ (c : List ℕ) (t : Bool) (y : f ≡ true) (et : t ≡ netOrdered counts base last s at .is) (ec : c ≡ netOrdered counts base last s at .ws) where
+    pub nets-more : (a m k : ℕ) → netsFrom wide counts base last s at k ≡ x → 0 < k → t ≡ true → m ≡ be16 s at + 1 → a ≡ within s (flatNetEnd s at)
+        → netsFrom wide c (base + 4) m s a (k - 1) ≡ x
+    unfolding netsFrom
+    nets-more a m zero g h z em ea = absurd (not-suc-le-zero h)
+    nets-more a m (suc k) g h z em ea = rw (sub-one, ec, em, ea) (pick-true _ _ _ (sym ef ∙ y) (pick-true _ _ _ (sym et ∙ z) refl) ∙ g)
 
-pub nets-done : (s counts : List ℕ) (base last at k : ℕ) (x : Bool) → netsFrom counts base last s at k ≡ x → k ≤ 0 → true ≡ x
+    pub nets-no : (k : ℕ) → netsFrom wide counts base last s at k ≡ x → 0 < k → t ≡ false → false ≡ x
+    unfolding netsFrom
+    nets-no zero g h z = absurd (not-suc-le-zero h)
+    nets-no (suc k) g h z = pick-true _ _ _ (sym ef ∙ y) (pick-false _ _ _ (sym et ∙ z) refl) ∙ g
+
+pub nets-done : (wide : ℕ → ℕ → ℕ → Bool) (s counts : List ℕ) (base last at k : ℕ) (x : Bool) → netsFrom wide counts base last s at k ≡ x → k ≤ 0 → true ≡ x
 unfolding netsFrom
-nets-done s counts base last at zero x g h = g
-nets-done s counts base last at (suc k) x g h = absurd (not-suc-le-zero h)
+nets-done wide s counts base last at zero x g h = g
+nets-done wide s counts base last at (suc k) x g h = absurd (not-suc-le-zero h)
 
 module _ (s : List ℕ) (at n : ℕ) where
+  pub wide-over : (last : ℕ) → 256 < n → false ≡ netsWide s last at n
+  unfolding netsWide
+  wide-over last h = lt-yes _ _ _ _ h refl
+
+  pub wide-start : (last : ℕ) → n ≤ 256 → netsFrom (λ l a k. false) (replicate 65536 0) 0 last s at n ≡ netsWide s last at n
+  unfolding netsWide
+  wide-start last h = lt-no _ _ _ _ h refl
+
   pub nets-over : 256 < n → false ≡ netsOrdered s at n
   unfolding netsOrdered
   nets-over h = lt-yes _ _ _ _ h refl
 
-  pub nets-start : n ≤ 256 → netsFrom (replicate 65536 0) 0 0 s at n ≡ netsOrdered s at n
+  pub nets-start : n ≤ 256 → netsFrom (netsWide s) (replicate 1024 0) 0 0 s at n ≡ netsOrdered s at n
   unfolding netsOrdered
   nets-start h = lt-no _ _ _ _ h refl

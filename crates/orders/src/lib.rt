@@ -1,9 +1,11 @@
 // The orders of check 6 on flat nets: nets ascend by their names; a pair has its smaller wire first, pairs ascend by it, and no
-// wire is in two. `last` is one more than the name or wire before, and 0 at first. Wires are marked in a lent array of 65,536
-// words, above a base, as in `tally`.
+// wire is in two. `last` is one more than the name or wire before, and 0 at first. A wire is marked by a word above a base,
+// so that nothing has to be cleared between nets; there are 1,024 words and, for nets that may have more wires, 65,536.
+ghost use Prim.Native.Nat.{_+_};
 ghost use mathlib.Core.Path.{_≡_};
+ghost use Rattle.fields.specs.Fields.{be16};
 ghost use Rattle.wiring.specs.Wiring.{pairRun, netPairs};
-ghost use Rattle.orders.specs.Orders.{marked, pairFits, pairStep, pairsFrom, nameFits, netOrdered, netsOrdered};
+ghost use Rattle.orders.specs.Orders.{marked, mark, pairFits, pairStep, pairsFrom, nameFits, netOrdered, netsWide, netsOrdered};
 
 // Whether a wire was seen.
 fn marked(counts: &[u32], base: u16, w: u16) -> bool
@@ -11,6 +13,12 @@ fn marked(counts: &[u32], base: u16, w: u16) -> bool
 {
     let c = words::get(counts, w as usize);
     (base as u32) < c
+}
+
+fn mark(counts: &mut [u32], base: u16, w: u16)
+    ensures { λ _. ⌜ now (counts .exit) ≡ mark (now (counts .entry)) base w ⌝ }
+{
+    words::put(counts, w as usize, base as u32 + 1)
 }
 
 // Whether a pair may follow those before it.
@@ -37,8 +45,8 @@ fn pair_step(counts: &mut [u32], base: u16, last: u32, a: u16, b: u16) -> bool
     ensures { λ r. ⌜ (r ≡ pairStep (now (counts .entry)) base last a b .is) × (now (counts .exit) ≡ pairStep (now (counts .entry)) base last a b .ws) ⌝ }
 {
     if pair_fits(counts, base, last, a, b) {
-        tally::bump(counts, base, a);
-        tally::bump(counts, base, b);
+        mark(counts, base, a);
+        mark(counts, base, b);
         return true;
     }
     false
@@ -89,6 +97,13 @@ pub fn name_fits(s: &[u8], at: usize, last: u32) -> bool
     last <= m as u32
 }
 
+// One more than the name of the net at a place.
+fn above_name(s: &[u8], at: usize) -> u32
+    ensures { λ r. ⌜ r ≡ be16 (now (s .entry)) at + 1 ⌝ }
+{
+    fields::be16(s, at) as u32 + 1
+}
+
 // One net.
 fn net_ordered(counts: &mut [u32], base: u16, last: u32, s: &[u8], at: usize) -> bool
     ensures { λ r. ⌜ (r ≡ netOrdered (now (counts .entry)) base last (now (s .entry)) at .is) × (now (counts .exit) ≡ netOrdered (now (counts .entry)) base last (now (s .entry)) at .ws) ⌝ }
@@ -99,9 +114,9 @@ fn net_ordered(counts: &mut [u32], base: u16, last: u32, s: &[u8], at: usize) ->
     false
 }
 
-// n nets, one after another, each above a base of its own, so that the counts are never cleared.
-pub fn nets_ordered(s: &[u8], from: usize, n: u16) -> bool
-    ensures { λ r. ⌜ r ≡ netsOrdered (now (s .entry)) from n ⌝ }
+// n nets, one after another, each above a base of its own, with a word for each wire that a net may have.
+fn nets_wide(s: &[u8], before: u32, from: usize, n: u16) -> bool
+    ensures { λ r. ⌜ r ≡ netsWide (now (s .entry)) before from n ⌝ }
 {
     if 256 < n {
         return false;
@@ -109,16 +124,49 @@ pub fn nets_ordered(s: &[u8], from: usize, n: u16) -> bool
     let mut counts = [0u32; 65536];
     let mut at = from;
     let mut base: u16 = 0;
+    let mut last: u32 = before;
+    let mut k = n;
+    while 0 < k {
+        if wiring::fits(&counts, s, at) {
+            if net_ordered(&mut counts, base, last, s, at) {
+                last = above_name(s, at);
+                at = ends::flat_net_end(s, at);
+                base += 4;
+                k -= 1;
+            } else {
+                return false;
+            }
+        } else {
+            return false;
+        }
+    }
+    true
+}
+
+// n nets, with words for 1,024 wires up to a net that may have more.
+pub fn nets_ordered(s: &[u8], from: usize, n: u16) -> bool
+    ensures { λ r. ⌜ r ≡ netsOrdered (now (s .entry)) from n ⌝ }
+{
+    if 256 < n {
+        return false;
+    }
+    let mut counts = [0u32; 1024];
+    let mut at = from;
+    let mut base: u16 = 0;
     let mut last: u32 = 0;
     let mut k = n;
     while 0 < k {
-        if net_ordered(&mut counts, base, last, s, at) {
-            last = fields::be16(s, at) as u32 + 1;
-            at = ends::flat_net_end(s, at);
-            base += 4;
-            k -= 1;
+        if wiring::fits(&counts, s, at) {
+            if net_ordered(&mut counts, base, last, s, at) {
+                last = above_name(s, at);
+                at = ends::flat_net_end(s, at);
+                base += 4;
+                k -= 1;
+            } else {
+                return false;
+            }
         } else {
-            return false;
+            return nets_wide(s, last, at, k);
         }
     }
     true

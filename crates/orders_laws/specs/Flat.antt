@@ -1,4 +1,4 @@
--- A flat net that is read: its pairs are those that `net_pairs` goes over, and each of their wires has its word.
+-- A flat net that is read: its pairs are those that `net_pairs` goes over, and their wires are below its counter.
 use Prim.Native.Nat.{ℕ, zero, suc, _+_, _*_, _<_, _≤_}
 use mathlib.Core.Path.{_≡_, refl, sym}
 use mathlib.Core.Option.{some}
@@ -14,7 +14,7 @@ use Rattle.stored.specs.Stored.{pairAt, pairsAt, pairCountAt, flatNetAt, tableA
 use Rattle.stored.specs.Laws.{bound, stands-as, stands-2, stands-4, stands-below, stands-many, stands-numbers, table-steps}
 use Rattle.stored.specs.Parts.{stands-bit, stands-pair}
 use Rattle.ends.specs.Ends.{within, on}
-use Rattle.tally.specs.Tally.{Inside, inside-more}
+use Rattle.tally.specs.Tally.{Inside}
 use Rattle.wiring.specs.Wiring.{pairRun, netPairs}
 use Rattle.walk.specs.Loops.{times-suc}
 use Rattle.stored.specs.Pass.{pass, under}
@@ -51,7 +51,8 @@ module _ (s : List ℕ) (wires : ℕ) where
 
 pub record FlatRead (s : List ℕ) (at : ℕ) : Type 0 where
   pub pairs : netPairs s at ≡ flatNetAt s at .pairs
-  pub inside : Inside 65536 (pairWires (flatNetAt s at .pairs))
+  pub inside : Inside (be32 s (at + 3)) (pairWires (flatNetAt s at .pairs))
+  pub counter : be32 s (at + 3) ≤ 65536
 
 module _ (s : List ℕ) (at : ℕ) where
   -- where the pairs are all there
@@ -77,5 +78,6 @@ module _ (s : List ℕ) (at : ℕ) where
       let u = under 4 65537 w (drop (at + 3) s) _ (c .first) in
       record {
         pairs = pairs-stand (be16 s m) refl (p .inside);
-        inside = inside-more w 65536 (omega arith) (pairWires (pairsAt s (m + 2) (be16 s m))) (counted-inside s w m _ _ (d .inside) (p .first));
+        inside = counted-inside s w m _ _ (d .inside) (p .first);
+        counter = omega arith;
       }

@@ -74,4 +74,4 @@ differ-in s item l at m (suc k) =
     if-lt (length s) (at + z) false (pick (known s l m p at z) false r)
 
 unfoldable pub differ : List ℕ → ℕ → ℕ → Item → Bool
-differ s at n item = if-lt 1024 n false (differ-in s item (replicate 1024 0) at 0 n)
+differ s at n item = if-lt 1024 n false (if-lt 64 n (differ-in s item (replicate 1024 0) at 0 n) (differ-in s item (replicate 64 0) at 0 n))

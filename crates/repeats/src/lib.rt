@@ -179,12 +179,17 @@ fn differ_in(s: &[u8], sorted: &mut [usize], from: usize, n: u32, item: Item) ->
 }
 
 // Whether n items from `at` on are pairwise different. False for more than 1,024: a file that passes check 5 has two the same then.
+// Few items have a table of their own, which is cleared sooner.
 pub fn differ(s: &[u8], at: usize, n: u32, item: Item) -> bool
     ensures { λ r. ⌜ r ≡ differ (now (s .entry)) at n item ⌝ }
 {
     if 1024 < n {
         return false;
     }
-    let mut sorted = [0usize; 1024];
-    differ_in(s, &mut sorted, at, n, item)
+    if 64 < n {
+        let mut sorted = [0usize; 1024];
+        return differ_in(s, &mut sorted, at, n, item);
+    }
+    let mut few = [0usize; 64];
+    differ_in(s, &mut few, at, n, item)
 }

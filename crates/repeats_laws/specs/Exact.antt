@@ -8,7 +8,7 @@ use native.Mathlib.Omega.{arith}
 use native.Mathlib.Decide.{decLt}
 use native.Mathlib.Numerals.{add-one}
 use lib.ListN.{length, getD, replicate, length-replicate}
-use Rattle.words.specs.Choose.{lt-no, pick-true, pick-false}
+use Rattle.words.specs.Choose.{lt-no, lt-split, pick-true, pick-false}
 use Rattle.net_file.specs.Lists.{distinct, eqs}
 use Rattle.list_laws.specs.Tests.{either}
 use Rattle.list_laws.specs.Lists.{eqs-true, eqs-eq}
@@ -130,12 +130,19 @@ empty s item l at = record {
   only = λ y e. let z : _≡_ {A = ℕ} 0 1 = cc in absurd (omega arith);
 }
 
+module _ (s : List ℕ) (at n : ℕ) (item : Item) (t : tableEnd (itemEnd s item) at n ≤ length s) where
+  -- with room for size places
+  differ-by : (size : ℕ) → n ≤ size → size ≤ 1024 → differ-in s item (replicate size 0) at 0 n ≡ distinct eqs (items s at n item)
+  unfolding items
+  differ-by size h k =
+      let r : length {A = ℕ} (replicate size 0) ≡ size = length-replicate {A = ℕ} size 0 in
+      differ-fresh s item n (replicate size 0) at 0 (λ y. false) (empty s item (replicate size 0) at) (rw r (omega arith)) (rw r k) t
+      ∙ fresh-distinct eqs (tableAt (itemAt s item) (itemEnd s item) at n)
+
 -- of a table that lies within s
 pub differ-exact : (s : List ℕ) (at n : ℕ) (item : Item) → n ≤ 1024 → tableEnd (itemEnd s item) at n ≤ length s
     → differ s at n item ≡ distinct eqs (items s at n item)
-unfolding differ items
+unfolding differ
 differ-exact s at n item h t =
-    let r : length {A = ℕ} (replicate 1024 0) ≡ 1024 = length-replicate {A = ℕ} 1024 0 in
-    sym (lt-no _ _ _ _ h refl)
-    ∙ differ-fresh s item n (replicate 1024 0) at 0 (λ y. false) (empty s item (replicate 1024 0) at) (rw r (omega arith)) (rw r (omega arith)) t
-    ∙ fresh-distinct eqs (tableAt (itemAt s item) (itemEnd s item) at n)
+    sym (lt-no _ _ _ _ (omega arith) refl)
+    ∙ lt-split 64 n _ _ (λ x. x ≡ distinct eqs (items s at n item)) (λ l. differ-by s at n item t 1024 (omega arith) (omega arith)) (λ l. differ-by s at n item t 64 l (omega arith))

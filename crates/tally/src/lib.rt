@@ -1,4 +1,4 @@
-// How often a wire occurs in a net, counted in a lent array of 65,536 words, one a wire. A word says nothing below a base and
+// How often a wire occurs in a net, counted in a lent array that has a word for each wire. A word says nothing below a base and
 // 1, 2 or 3 (three times or more) by how much it is above it. The next net counts above a base that is 4 higher, so that
 // nothing has to be cleared between nets.
 ghost use mathlib.Core.Path.{_≡_};

@@ -1,2 +1,3 @@
 pub mod Wiring
+pub mod Fits
 pub mod Steps

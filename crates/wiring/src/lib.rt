@@ -5,6 +5,7 @@ ghost use Rattle.net_file.specs.Lists.{all};
 ghost use Rattle.tally.specs.Tally.{tally};
 ghost use Rattle.ends.specs.Runs.{run};
 ghost use Rattle.wiring.specs.Wiring.{pairRun, nodeWires, nodesWires, freeWires, pairedWires, netPairs, netNodes, twice, alike, netTallied, netWired};
+ghost use Rattle.wiring.specs.Fits.{fits};
 
 // n wires that stand one after another, where all are there.
 pub fn tally_run(counts: &mut [u32], base: u16, s: &[u8], from: usize, n: u32)
@@ -204,4 +205,12 @@ pub fn net_wired(counts: &[u32], base: u16, s: &[u8], at: usize) -> bool
         }
     }
     false
+}
+
+// Whether there is a word for each wire of the net at a place, flat or of trees: they are below its counter, which its head has.
+pub fn fits(counts: &[u32], s: &[u8], at: usize) -> bool
+    ensures { λ r. ⌜ r ≡ fits (now (counts .entry)) (now (s .entry)) at ⌝ }
+{
+    let wires = fields::be32(s, ends::on(s, at, 3));
+    wires as usize <= counts.len()
 }

@@ -1,4 +1,4 @@
--- Every wire of a net that is read is below 65,536, since it is below the net's counter.
+-- Every wire of a net that is read is below the net's counter, and that is at most 65,536.
 use Prim.Native.Nat.{ℕ, zero, suc, _<_, _≤_}
 use mathlib.Core.Path.{_≡_}
 use mathlib.Core.Option.{some}
@@ -19,9 +19,9 @@ abbrev pub Each : {A : Type 0} → (A → Type 0) → List A → Type 0
 Each P [] = Unit {0}
 Each P (x ∷ xs) = P x × Each P xs
 
-inside-each : (n b : ℕ) (ws : List ℕ) → b ≤ n → Each (λ w. w < b) ws → Inside n ws
-inside-each n b [] l h = tt
-inside-each n b (w ∷ ws) l h = (let k = h .0 in omega arith, inside-each n b ws l (h .1))
+inside-each : (n : ℕ) (ws : List ℕ) → Each (λ w. w < n) ws → Inside n ws
+inside-each n [] h = tt
+inside-each n (w ∷ ws) h = (h .0, inside-each n ws (h .1))
 
 inside-concat : {A : Type 0} (n : ℕ) (f : A → List ℕ) (xs : List A) → Each (λ x. Inside n (f x)) xs → Inside n (concatMap f xs)
 inside-concat n f [] h = tt
@@ -61,39 +61,41 @@ module _ {A : Type 0} (p : Parser A) (P : A → Type 0) (h : Reads p P) where
 
 -- ---- a net
 
-module _ (n b : ℕ) (l : b ≤ n) where
-  pair-reads : Reads (readPair b) (λ p. Inside n (p .0 ∷ p .1 ∷ []))
+module _ (b : ℕ) where
+  pair-reads : Reads (readPair b) (λ p. Inside b (p .0 ∷ p .1 ∷ []))
   unfolding readPair
   pair-reads =
       bind-reads (below 2 b) _ (λ w. w < b) _ (below-reads 2 b) (λ x h.
       bind-reads (below 2 b) _ (λ w. w < b) _ (below-reads 2 b) (λ y k.
-      give-reads _ (x, y) (omega arith, (omega arith, tt))))
+      give-reads _ (x, y) (h, (k, tt))))
 
-  node-reads : (paths names : ℕ) → Reads (readNode paths names b) (λ m. Inside n (m .pri ∷ m .aux))
+  node-reads : (paths names : ℕ) → Reads (readNode paths names b) (λ m. Inside b (m .pri ∷ m .aux))
   unfolding readNode
   node-reads paths names =
       bind-reads (readName paths names) _ (λ x. Unit {0}) _ (any-reads (readName paths names)) (λ m u.
       bind-reads (below 2 b) _ (λ w. w < b) _ (below-reads 2 b) (λ p h.
       bind-reads (many 1 15 (below 2 b)) _ (Each (λ w. w < b)) _ (many-reads (below 2 b) (λ w. w < b) (below-reads 2 b) 1 15) (λ ws k.
-      give-reads _ (record { name = m; pri = p; aux = ws }) (omega arith, inside-each n b ws l k))))
+      give-reads _ (record { name = m; pri = p; aux = ws }) (h, inside-each b ws k))))
 
--- the wires of a net, place by place
-pub record Wires (n : ℕ) (x : FlatNet) : Type 0 where
-  pub frees : Inside n (x .free)
-  pub paired : Inside n (pairWires (x .pairs))
-  pub noded : Inside n (concatMap (λ m. m .pri ∷ m .aux) (x .nodes))
+-- the wires of a net, place by place, and its counter
+pub record Wires (x : FlatNet) : Type 0 where
+  pub frees : Inside (x .wires) (x .free)
+  pub paired : Inside (x .wires) (pairWires (x .pairs))
+  pub noded : Inside (x .wires) (concatMap (λ m. m .pri ∷ m .aux) (x .nodes))
+  pub counter : x .wires ≤ 65536
 
-pub net-reads : (paths names : ℕ) → Reads (readFlatNet paths names) (Wires 65536)
+pub net-reads : (paths names : ℕ) → Reads (readFlatNet paths names) Wires
 unfolding readFlatNet pairWires
 net-reads paths names =
     bind-reads (below 2 names) _ (λ x. Unit {0}) _ (any-reads (below 2 names)) (λ m u.
     bind-reads readBit _ (λ x. Unit {0}) _ (any-reads readBit) (λ i u.
     bind-reads (below 4 65537) _ (λ b. b < 65537) _ (below-reads 4 65537) (λ b l.
     bind-reads (many 1 14 (below 2 b)) _ (Each (λ w. w < b)) _ (many-reads (below 2 b) (λ w. w < b) (below-reads 2 b) 1 14) (λ fs f.
-    bind-reads (many 2 65535 (readPair b)) _ (Each (λ p. Inside 65536 (p .0 ∷ p .1 ∷ []))) _ (many-reads (readPair b) _ (pair-reads 65536 b (omega arith)) 2 65535) (λ ps g.
-    bind-reads (many 2 4096 (readNode paths names b)) _ (Each (λ y. Inside 65536 (y .pri ∷ y .aux))) _ (many-reads (readNode paths names b) _ (node-reads 65536 b (omega arith) paths names) 2 4096) (λ ns h.
-    give-reads (Wires 65536) (record { name = m; included = i; wires = b; free = fs; pairs = ps; nodes = ns }) (record {
-      frees = inside-each 65536 b fs (omega arith) f;
-      paired = inside-concat 65536 _ ps g;
-      noded = inside-concat 65536 _ ns h;
+    bind-reads (many 2 65535 (readPair b)) _ (Each (λ p. Inside b (p .0 ∷ p .1 ∷ []))) _ (many-reads (readPair b) _ (pair-reads b) 2 65535) (λ ps g.
+    bind-reads (many 2 4096 (readNode paths names b)) _ (Each (λ y. Inside b (y .pri ∷ y .aux))) _ (many-reads (readNode paths names b) _ (node-reads b paths names) 2 4096) (λ ns h.
+    give-reads Wires (record { name = m; included = i; wires = b; free = fs; pairs = ps; nodes = ns }) (record {
+      frees = inside-each b fs f;
+      paired = inside-concat b _ ps g;
+      noded = inside-concat b _ ns h;
+      counter = omega arith;
     })))))))

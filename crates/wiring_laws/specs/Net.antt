@@ -14,7 +14,7 @@ use Rattle.list_laws.specs.Lists.{all-append}
 use Rattle.net_file.specs.Read.{readFlatNet}
 use Rattle.net_file.specs.Checks.{pairWires, pairsOrdered, occurs, places, pairWired, wireWired, flatWired}
 use Rattle.stored.specs.Parts.{stands-net}
-use Rattle.tally.specs.Tally.{tally, seen, Low, Inside, inside-append, tally-length, tally-low, tally-append, tally-seen}
+use Rattle.tally.specs.Tally.{tally, seen, Low, Inside, inside-append, inside-more, tally-length, tally-low, tally-append, tally-seen}
 use Rattle.wiring.specs.Wiring.{twice, alike, freeWires, pairedWires, netPairs, netNodes, netTallied, netWired}
 use Rattle.wiring_laws.specs.Members.{occurs-append, occurs-once}
 use Rattle.wiring_laws.specs.Counts.{counts-tell}
@@ -28,18 +28,18 @@ pairs-once ps e w = occurs-once w (pairWires ps) (both (all (λ p. ltb (p .0) (p
 
 -- ---- what the counts are, of lists
 
-module _ (counts : List ℕ) (base : ℕ) (l : Low counts base) (len : length counts ≡ 65536) (fs ns : List ℕ) (ps : List (ℕ × ℕ)) where
+module _ (counts : List ℕ) (base : ℕ) (l : Low counts base) (fs ns : List ℕ) (ps : List (ℕ × ℕ)) where
   tallied : List ℕ
   tallied = tally (tally (tally counts base fs) base (pairWires ps)) base ns
 
-  module _ (f : Inside 65536 fs) (p : Inside 65536 (pairWires ps)) (n : Inside 65536 ns) where
+  module _ (f : Inside (length counts) fs) (p : Inside (length counts) (pairWires ps)) (n : Inside (length counts) ns) where
     -- a wire's count is how often it occurs over all of them, since each has its word and no word was above the base
     counted : (w : ℕ) → getD tallied w 0 - base ≡ min 3 (occurs w (fs ++ ns) + occurs w (pairWires ps))
     unfolding tallied seen
     counted w =
         let x = l w in
-        let i = inside-append 65536 (fs ++ pairWires ps) ns (inside-append 65536 fs (pairWires ps) f p) n in
-        let e = tally-seen counts base w ((fs ++ pairWires ps) ++ ns) (rw len i) (λ v. let y = l v in omega arith) in
+        let i = inside-append (length counts) (fs ++ pairWires ps) ns (inside-append (length counts) fs (pairWires ps) f p) n in
+        let e = tally-seen counts base w ((fs ++ pairWires ps) ++ ns) i (λ v. let y = l v in omega arith) in
         let q = occurs-append w fs ns in
         let r = occurs-append w (fs ++ pairWires ps) ns in
         let t = occurs-append w fs (pairWires ps) in
@@ -71,20 +71,22 @@ module _ (s counts : List ℕ) (base at : ℕ) where
       let k = tally-low (tally (tally counts base f) base p) base (netNodes s at) (tally-low (tally counts base f) base p (tally-low counts base f (λ v. let y = l v in omega arith))) in
       λ w. let z = k w in omega arith
 
-  module _ (l : Low counts base) (len : length counts ≡ 65536) where
+  module _ (l : Low counts base) (n : FlatNet) (room : n .wires ≤ length counts) where
     -- a net that has these parts
-    parts-wired : (n : FlatNet) → Wires 65536 n → pairsOrdered (n .pairs) ≡ true → freeWires s at ≡ n .free → netPairs s at ≡ n .pairs
+    parts-wired : Wires n → pairsOrdered (n .pairs) ≡ true → freeWires s at ≡ n .free → netPairs s at ≡ n .pairs
         → pairedWires s at ≡ pairWires (n .pairs) → netNodes s at ≡ concatMap nodePlaces (n .nodes) → netWired (netTallied counts base s at) base s at ≡ flatWired n
     unfolding netWired netTallied flatWired places tallied
-    parts-wired n w o ef ep eq en =
-        rw (ef, ep, eq, en) (lists-wired counts base l len (n .free) (concatMap nodePlaces (n .nodes)) (n .pairs) (w .frees) (w .paired) (w .noded) o)
+    parts-wired w o ef ep eq en =
+        let more = inside-more (n .wires) (length counts) (omega arith) in
+        let ns = concatMap nodePlaces (n .nodes) in
+        rw (ef, ep, eq, en) (lists-wired counts base l (n .free) ns (n .pairs) (more (n .free) (w .frees)) (more (pairWires (n .pairs)) (w .paired)) (more ns (w .noded)) o)
 
-    pub net-wired : (paths names : ℕ) (n : FlatNet) (r : List ℕ) → readFlatNet paths names (drop at s) ≡ some (n, r) → at ≤ length s → pairsOrdered (n .pairs) ≡ true
+    pub net-wired : (paths names : ℕ) (r : List ℕ) → readFlatNet paths names (drop at s) ≡ some (n, r) → at ≤ length s → pairsOrdered (n .pairs) ≡ true
         → netWired (netTallied counts base s at) base s at ≡ flatWired n
-    net-wired paths names n r e i o =
+    net-wired paths names r e i o =
         let y = stands-net s paths names at .by n r i e in
         let h = y .3 in
         let q = sym (y .0) in
-        parts-wired n (net-reads paths names (drop at s) n r e) o
+        parts-wired (net-reads paths names (drop at s) n r e) o
         (free-are s at h ∙ ap (λ m. m .free) q) (pairs-are s at h ∙ ap (λ m. m .pairs) q)
         (paired-are s at h ∙ ap (λ m. pairWires (m .pairs)) q) (noded-are s at h ∙ ap (λ m. concatMap nodePlaces (m .nodes)) q)

@@ -1,4 +1,4 @@
--- Every wire of a net that is read is below its wire counter, so it has a word in the tally (`inside-net`).
+-- Every wire of a net that is read is below its wire counter, and that is at most 65,536 (`net-reads`).
 use Prim.Native.Nat.{ℕ, zero, suc, _≤_}
 use mathlib.Core.Path.{_≡_, subst}
 use mathlib.Core.Option.{some}
@@ -10,7 +10,7 @@ use Rattle.net_file.specs.Read.{Parser, _>>=_, give, below, times, many, readNa
 use Rattle.net_file.specs.Checks.{wiresOf, treesOf}
 use Rattle.stored.specs.Laws.{some-value, bound}
 use Rattle.walk.specs.Loops.{times-zero, times-suc}
-use Rattle.tally.specs.Tally.{Inside, inside-append, inside-more}
+use Rattle.tally.specs.Tally.{Inside, inside-append}
 use Rattle.stored.specs.Pass.{under}
 use Rattle.scan_tree_laws.specs.Trees.{singles}
 use Rattle.scan_tree_laws.specs.Scanned.{concat-append, wires-listed}
@@ -87,9 +87,14 @@ module _ (paths names wires : ℕ) where
 
 -- ---- a net
 
-pub inside-net : (paths names n : ℕ) → 65536 ≤ n → (bs : List ℕ) (x : TreeNet) (r : List ℕ) → readTreeNet paths names bs ≡ some (x, r) → Inside n (concatMap wiresOf (treesOf x))
+-- the wires of a net, and its counter
+pub record Wires (x : TreeNet) : Type 0 where
+  pub inside : Inside (x .wires) (concatMap wiresOf (treesOf x))
+  pub counter : x .wires ≤ 65536
+
+pub net-reads : (paths names : ℕ) (bs : List ℕ) (x : TreeNet) (r : List ℕ) → readTreeNet paths names bs ≡ some (x, r) → Wires x
 unfolding readTreeNet treesOf
-inside-net paths names n room bs x r h =
+net-reads paths names bs x r h =
     let a = bound (below 2 names) _ bs x r h in
     let b = bound readBit _ (a .rest) x r (a .next) in
     let c = bound (below 4 65537) _ (b .rest) x r (b .next) in
@@ -101,7 +106,7 @@ inside-net paths names n room bs x r h =
     let e = bound (many 2 65535 aLink) _ (d .rest) x r (d .next) in
     let free = within-many wires aTree (λ t. t ∷ []) (within-tree paths names wires 64) 1 14 (c .rest) (d .value) (d .rest) (d .first) in
     let links = within-many wires aLink (λ t. t .0 ∷ t .1 ∷ []) (within-link paths names wires) 2 65535 (d .rest) (e .value) (e .rest) (e .first) in
-    inside-more wires n (omega arith) (concatMap wiresOf (treesOf x))
-    (subst (λ (y : TreeNet). Inside wires (concatMap wiresOf (treesOf y)))
-    (some-value (e .next) .0)
-    (within-append wires (d .value) (concatMap (λ t. t .0 ∷ t .1 ∷ []) (e .value)) (rw (singles (d .value)) at free) links))
+    subst Wires (some-value (e .next) .0) (record {
+      inside = within-append wires (d .value) (concatMap (λ t. t .0 ∷ t .1 ∷ []) (e .value)) (rw (singles (d .value)) at free) links;
+      counter = omega arith;
+    })

@@ -14,11 +14,11 @@ use Rattle.net_file.specs.Lists.{all, concatMap}
 use Rattle.net_file.specs.Values.{TreeNet}
 use Rattle.net_file.specs.Read.{readTreeNet}
 use Rattle.net_file.specs.Checks.{occurs, wiresOf, treesOf, treeWired}
-use Rattle.tally.specs.Tally.{tally, seen, Low, Inside, tally-seen, tally-low, tally-length}
+use Rattle.tally.specs.Tally.{tally, seen, Low, Inside, inside-more, tally-seen, tally-low, tally-length}
 use Rattle.wiring.specs.Wiring.{twice}
 use Rattle.scan_tree.specs.Count.{netWires}
 use Rattle.scan_tree_laws.specs.Net.{net-wires}
-use Rattle.wiring_tree_laws.specs.Inside.{inside-net}
+use Rattle.wiring_tree_laws.specs.Inside.{net-reads}
 use Rattle.wiring_tree.specs.Wiring.{netTallied, netWired}
 
 all-same : {A : Type 0} (f g : A → Bool) (xs : List A) → ((x : A) → f x ≡ g x) → all f xs ≡ all g xs
@@ -45,12 +45,12 @@ module _ (counts : List ℕ) (base : ℕ) (ws : List ℕ) (inside : Inside (leng
 -- ---- a net
 
 module _ (s counts : List ℕ) (base at : ℕ) (low : Low counts base) where
-  pub tree-wired : 65536 ≤ length counts → (paths names : ℕ) (x : TreeNet) (r : List ℕ) → at ≤ length s → readTreeNet paths names (drop at s) ≡ some (x, r)
+  pub tree-wired : (paths names : ℕ) (x : TreeNet) (r : List ℕ) → x .wires ≤ length counts → at ≤ length s → readTreeNet paths names (drop at s) ≡ some (x, r)
       → netWired (netTallied counts base s at) base s at ≡ treeWired x
   unfolding netWired netTallied treeWired
-  tree-wired room paths names x r i h =
+  tree-wired paths names x r room i h =
       let e : netWires s at ≡ concatMap wiresOf (treesOf x) = net-wires s paths names at x r i h in
-      let inside : Inside (length counts) (netWires s at) = rw e (inside-net paths names (length counts) room (drop at s) x r h) in
+      let inside : Inside (length counts) (netWires s at) = rw e (inside-more (x .wires) (length counts) room (concatMap wiresOf (treesOf x)) (net-reads paths names (drop at s) x r h .inside)) in
       rw (← e) (all-twice counts base (netWires s at) inside low)
 
   pub tree-low : Low (netTallied counts base s at) (base + 4)

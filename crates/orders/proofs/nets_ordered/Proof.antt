@@ -1,5 +1,5 @@
-use Rattle.orders.specs.Steps.{nets-over, nets-start, nets-more, nets-no, nets-done}
-use Rattle.orders.specs.Orders.{netsFrom, netsOrdered}
+use Rattle.orders.specs.Steps.{nets-over, nets-start, nets-more, nets-no, nets-unfit, nets-done}
+use Rattle.orders.specs.Orders.{netsFrom, netsWide, netsOrdered}
 use lib.ListN.{length}
 use mathlib.Core.Path.{_≡_}
 use Prim.Native.Nat.{_+_, _*_, _≤_}
@@ -9,7 +9,7 @@ use Rattle.orders.proofs.nets_ordered.Statement.{statement}
 use Rattle.orders.proofs.nets_ordered.Tie as tie
 
 abbrev Inv-loop : tie.InvT-loop
-Inv-loop s from n counts₀ at₀ base₀ last₀ k₀ counts at base last k = (netsFrom counts base last s at k ≡ netsOrdered s from n) × (length counts ≡ 65536) × (base + 4 * k ≤ 1024)
+Inv-loop s from n counts₀ at₀ base₀ last₀ k₀ counts at base last k = (netsFrom (netsWide s) counts base last s at k ≡ netsOrdered s from n) × (length counts ≡ 1024) × (base + 4 * k ≤ 1024)
 
 abbrev μ-loop : tie.MeasureT-loop
 μ-loop s from n counts₀ at₀ base₀ last₀ k₀ counts at base last k = k
@@ -20,20 +20,20 @@ returns c = nets-over _ _ _ (c .if1 .taken)
 loop-holds : tie.Need-loop-holds Inv-loop μ-loop
 loop-holds c = (nets-start _ _ _ (omega arith), search needs, omega arith)
 
+slice-aggregate-fits : tie.Need-slice-aggregate-fits Inv-loop μ-loop
+slice-aggregate-fits c = search needs
+
+fits-requires : tie.Need-fits-requires Inv-loop μ-loop
+fits-requires c κs = search needs
+
 slice-aggregate-net-ordered : tie.Need-slice-aggregate-net-ordered Inv-loop μ-loop
 slice-aggregate-net-ordered c = search needs
 
 net-ordered-requires : tie.Need-net-ordered-requires Inv-loop μ-loop
 net-ordered-requires c κs = search needs
 
-be16-requires : tie.Need-be16-requires Inv-loop μ-loop
-be16-requires c κs = search needs
-
-cast-last : tie.Need-cast-last Inv-loop μ-loop
-cast-last c = omega arith
-
-add-last : tie.Need-add-last Inv-loop μ-loop
-add-last c = omega arith
+above-name-requires : tie.Need-above-name-requires Inv-loop μ-loop
+above-name-requires c κs = search needs
 
 flat-net-end-requires : tie.Need-flat-net-end-requires Inv-loop μ-loop
 flat-net-end-requires c κs = search needs
@@ -53,8 +53,14 @@ loop-again c = (search nets-more, omega arith, omega arith)
 returns-2 : tie.Need-returns-2 Inv-loop μ-loop
 returns-2 c = search nets-no
 
+nets-wide-requires : tie.Need-nets-wide-requires Inv-loop μ-loop
+nets-wide-requires c κs = search needs
+
 returns-3 : tie.Need-returns-3 Inv-loop μ-loop
-returns-3 c = search nets-done
+returns-3 c = search nets-unfit
+
+returns-4 : tie.Need-returns-4 Inv-loop μ-loop
+returns-4 c = search nets-done
 
 pub nets-ordered-spec : {M : Type 1} → statement M
 nets-ordered-spec =
@@ -64,15 +70,17 @@ nets-ordered-spec =
     μ-loop
     returns
     loop-holds
+    slice-aggregate-fits
+    fits-requires
     slice-aggregate-net-ordered
     net-ordered-requires
-    be16-requires
-    cast-last
-    add-last
+    above-name-requires
     flat-net-end-requires
     add-base
     sub-k
     loop-less
     loop-again
     returns-2
-    returns-3)
+    nets-wide-requires
+    returns-3
+    returns-4)

@@ -8,11 +8,11 @@ use Rattle.orders.proofs.pair_step.Tie as tie
 pair-fits-requires : tie.Need-pair-fits-requires
 pair-fits-requires c κs = search needs
 
-bump-requires : tie.Need-bump-requires
-bump-requires c κs = search needs
+mark-requires : tie.Need-mark-requires
+mark-requires c κs = search needs
 
-bump-requires-2 : tie.Need-bump-requires-2
-bump-requires-2 c κs = search needs
+mark-requires-2 : tie.Need-mark-requires-2
+mark-requires-2 c κs = search needs
 
 same-length : tie.Need-same-length
 same-length c = search needs
@@ -31,8 +31,8 @@ pair-step-spec =
     tie.close
     (tie.spec
     pair-fits-requires
-    bump-requires
-    bump-requires-2
+    mark-requires
+    mark-requires-2
     same-length
     returns
     same-length-2

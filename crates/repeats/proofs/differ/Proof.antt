@@ -18,7 +18,26 @@ differ-in-requires c κs = search needs
 
 returns-2 : tie.Need-returns-2
 unfolding spec.differ
-returns-2 c = lt-no _ _ _ _ (omega arith) (cc)
+returns-2 c = lt-no _ _ _ _ (omega arith) (lt-yes _ _ _ _ (omega arith) (cc))
+
+slice-aggregate-differ-in-2 : tie.Need-slice-aggregate-differ-in-2
+slice-aggregate-differ-in-2 c = search needs
+
+differ-in-requires-2 : tie.Need-differ-in-requires-2
+differ-in-requires-2 c κs = search needs
+
+returns-3 : tie.Need-returns-3
+unfolding spec.differ
+returns-3 c = lt-no _ _ _ _ (omega arith) (lt-no _ _ _ _ (omega arith) (cc))
 
 pub differ-spec : {M : Type 1} → statement M
-differ-spec = tie.close (tie.spec returns slice-aggregate-differ-in differ-in-requires returns-2)
+differ-spec =
+    tie.close
+    (tie.spec
+    returns
+    slice-aggregate-differ-in
+    differ-in-requires
+    returns-2
+    slice-aggregate-differ-in-2
+    differ-in-requires-2
+    returns-3)

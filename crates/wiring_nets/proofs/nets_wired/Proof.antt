@@ -1,4 +1,4 @@
-use Rattle.wiring_nets.specs.Nets.{netsFrom, netsWired, nets-over, nets-start, nets-more, nets-no, nets-done}
+use Rattle.wiring_nets.specs.Nets.{netsFrom, netsWide, netsWired, nets-over, nets-start, nets-more, nets-no, nets-unfit, nets-done}
 use lib.ListN.{length}
 use mathlib.Core.Path.{_≡_}
 use Prim.Native.Nat.{_+_, _*_, _≤_}
@@ -8,7 +8,7 @@ use Rattle.wiring_nets.proofs.nets_wired.Statement.{statement}
 use Rattle.wiring_nets.proofs.nets_wired.Tie as tie
 
 abbrev Inv-loop : tie.InvT-loop
-Inv-loop s from n counts₀ at₀ base₀ k₀ counts at base k = (netsFrom counts base s at k ≡ netsWired s from n) × (length counts ≡ 65536) × (base + 4 * k ≤ 1024)
+Inv-loop s from n counts₀ at₀ base₀ k₀ counts at base k = (netsFrom (netsWide s) counts base s at k ≡ netsWired s from n) × (length counts ≡ 1024) × (base + 4 * k ≤ 1024)
 
 abbrev μ-loop : tie.MeasureT-loop
 μ-loop s from n counts₀ at₀ base₀ k₀ counts at base k = k
@@ -18,6 +18,12 @@ returns c = nets-over _ _ _ (c .if1 .taken)
 
 loop-holds : tie.Need-loop-holds Inv-loop μ-loop
 loop-holds c = (nets-start _ _ _ (omega arith), search needs, omega arith)
+
+slice-aggregate-fits : tie.Need-slice-aggregate-fits Inv-loop μ-loop
+slice-aggregate-fits c = search needs
+
+fits-requires : tie.Need-fits-requires Inv-loop μ-loop
+fits-requires c κs = search needs
 
 slice-aggregate-tally-net : tie.Need-slice-aggregate-tally-net Inv-loop μ-loop
 slice-aggregate-tally-net c = search needs
@@ -44,13 +50,23 @@ loop-less : tie.Need-loop-less Inv-loop μ-loop
 loop-less c = omega arith
 
 loop-again : tie.Need-loop-again Inv-loop μ-loop
-loop-again c = let t = c .before .before .before .before .before in let l = t .before .before .before in (nets-more _ _ _ _ _ _ _ _ (l .loop .k) (l .loop .inv .0) (omega arith) (t .tally-net .ensures) (c .before .before .net-wired .ensures) (c .before .if2 .taken) (c .flat-net-end .ensures), omega arith, omega arith)
+loop-again c =
+    let t = c .before .before .before .before .before in
+    let q = t .before .before .before in
+    let l = q .before .before .before .loop in
+    (nets-more _ _ _ _ _ _ _ (q .fits2 .ensures) _ _ (t .before .before .if2 .taken) (t .tally-net .ensures) (c .before .before .net-wired .ensures) _ (l .k) (l .inv .0) (omega arith) (c .before .if3 .taken) (c .flat-net-end .ensures), omega arith, omega arith)
 
 returns-2 : tie.Need-returns-2 Inv-loop μ-loop
 returns-2 c = search nets-no
 
+nets-wide-requires : tie.Need-nets-wide-requires Inv-loop μ-loop
+nets-wide-requires c κs = search needs
+
 returns-3 : tie.Need-returns-3 Inv-loop μ-loop
-returns-3 c = search nets-done
+returns-3 c = search nets-unfit
+
+returns-4 : tie.Need-returns-4 Inv-loop μ-loop
+returns-4 c = search nets-done
 
 pub nets-wired-spec : {M : Type 1} → statement M
 nets-wired-spec =
@@ -60,6 +76,8 @@ nets-wired-spec =
     μ-loop
     returns
     loop-holds
+    slice-aggregate-fits
+    fits-requires
     slice-aggregate-tally-net
     tally-net-requires
     slice-aggregate-net-wired
@@ -70,4 +88,6 @@ nets-wired-spec =
     loop-less
     loop-again
     returns-2
-    returns-3)
+    nets-wide-requires
+    returns-3
+    returns-4)

@@ -1,15 +1,14 @@
-use native.Mathlib.Omega.{arith}
-use borrow.Author.Needs.{needs}
-use Prim.Native.Nat.{_+_, _*_, _≤_}
-use mathlib.Core.Path.{_≡_}
+use Rattle.wiring_tree_nets.specs.Nets.{netsFrom, netsWide, netsWired, nets-over, nets-start, nets-more, nets-no, nets-unfit, nets-done}
 use lib.ListN.{length}
-use Rattle.wiring_tree_nets.specs.Nets.{netsFrom, netsWired, nets-over, nets-start, nets-more, nets-no, nets-done}
+use mathlib.Core.Path.{_≡_}
+use Prim.Native.Nat.{_+_, _*_, _≤_}
+use borrow.Author.Needs.{needs}
+use native.Mathlib.Omega.{arith}
 use Rattle.wiring_tree_nets.proofs.nets_wired.Statement.{statement}
 use Rattle.wiring_tree_nets.proofs.nets_wired.Tie as tie
 
 abbrev Inv-loop : tie.InvT-loop
-Inv-loop s from n counts₀ at₀ base₀ k₀ counts at base k =
-    (netsFrom counts base s at k ≡ netsWired s from n) × (length counts ≡ 65536) × (base + 4 * k ≤ 1024)
+Inv-loop s from n counts₀ at₀ base₀ k₀ counts at base k = (netsFrom (netsWide s) counts base s at k ≡ netsWired s from n) × (length counts ≡ 1024) × (base + 4 * k ≤ 1024)
 
 abbrev μ-loop : tie.MeasureT-loop
 μ-loop s from n counts₀ at₀ base₀ k₀ counts at base k = k
@@ -19,6 +18,12 @@ returns c = nets-over _ _ _ (c .if1 .taken)
 
 loop-holds : tie.Need-loop-holds Inv-loop μ-loop
 loop-holds c = (nets-start _ _ _ (omega arith), search needs, omega arith)
+
+slice-aggregate-fits : tie.Need-slice-aggregate-fits Inv-loop μ-loop
+slice-aggregate-fits c = search needs
+
+fits-requires : tie.Need-fits-requires Inv-loop μ-loop
+fits-requires c κs = search needs
 
 slice-aggregate-tally-net : tie.Need-slice-aggregate-tally-net Inv-loop μ-loop
 slice-aggregate-tally-net c = search needs
@@ -47,8 +52,14 @@ loop-again c = (search nets-more, omega arith, omega arith)
 returns-2 : tie.Need-returns-2 Inv-loop μ-loop
 returns-2 c = search nets-no
 
+nets-wide-requires : tie.Need-nets-wide-requires Inv-loop μ-loop
+nets-wide-requires c κs = search needs
+
 returns-3 : tie.Need-returns-3 Inv-loop μ-loop
-returns-3 c = search nets-done
+returns-3 c = search nets-unfit
+
+returns-4 : tie.Need-returns-4 Inv-loop μ-loop
+returns-4 c = search nets-done
 
 pub nets-wired-spec : {M : Type 1} → statement M
 nets-wired-spec =
@@ -58,6 +69,8 @@ nets-wired-spec =
     μ-loop
     returns
     loop-holds
+    slice-aggregate-fits
+    fits-requires
     slice-aggregate-tally-net
     tally-net-requires
     slice-aggregate-net-wired
@@ -67,4 +80,6 @@ nets-wired-spec =
     loop-less
     loop-again
     returns-2
-    returns-3)
+    nets-wide-requires
+    returns-3
+    returns-4)

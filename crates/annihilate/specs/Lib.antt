@@ -1,0 +1,2 @@
+pub mod Annihilate
+pub mod Ways

@@ -1,0 +1,4 @@
+pub mod Tests
+pub mod Tally
+pub mod Firsts
+pub mod Listed

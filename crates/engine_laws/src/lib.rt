@@ -1,0 +1,1 @@
+// Laws of the engine's books. Laws only, in specs/.

@@ -1,0 +1,2 @@
+pub mod Eta
+pub mod Ways

@@ -1,0 +1,9 @@
+pub mod Totals
+pub mod Weights
+pub mod Moves
+pub mod Answered
+pub mod Waited
+pub mod Passes
+pub mod Measure
+pub mod Lasts
+pub mod Reached

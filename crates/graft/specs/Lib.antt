@@ -1,0 +1,2 @@
+pub mod Graft
+pub mod Ways

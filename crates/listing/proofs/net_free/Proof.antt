@@ -1,0 +1,37 @@
+use Rattle.listing.specs.Nets.{free-written}
+use borrow.Author.Needs.{needs}
+use Rattle.listing.proofs.net_free.Statement.{statement}
+use Rattle.listing.proofs.net_free.Tie as tie
+
+slice-aggregate-word : tie.Need-slice-aggregate-word
+slice-aggregate-word c = search needs
+
+word-requires : tie.Need-word-requires
+word-requires c κs = search needs
+
+on-requires : tie.Need-on-requires
+on-requires c κs = search needs
+
+list-requires : tie.Need-list-requires
+list-requires c κs = search needs
+
+byte-requires : tie.Need-byte-requires
+byte-requires c κs = search needs
+
+same-length : tie.Need-same-length
+same-length c = search needs
+
+returns : tie.Need-returns
+returns c = search free-written
+
+pub net-free-spec : {M : Type 1} → statement M
+net-free-spec =
+    tie.close
+    (tie.spec
+    slice-aggregate-word
+    word-requires
+    on-requires
+    list-requires
+    byte-requires
+    same-length
+    returns)

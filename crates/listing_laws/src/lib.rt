@@ -1,0 +1,1 @@
+// The text of an accepted file. Laws only, in specs/.

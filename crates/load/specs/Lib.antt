@@ -1,0 +1,3 @@
+pub mod Added
+pub mod Load
+pub mod Ways

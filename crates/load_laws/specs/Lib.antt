@@ -1,0 +1,9 @@
+pub mod Finds
+pub mod Twice
+pub mod Meets
+pub mod Ends
+pub mod Net
+pub mod Loads
+pub mod Start
+pub mod Loaded
+pub mod Begin

@@ -1,0 +1,14 @@
+pub mod Places
+pub mod Annihilate
+pub mod Erase
+pub mod Columns
+pub mod Commute
+pub mod Rows
+pub mod EtaValues
+pub mod EtaPair
+pub mod EtaTidy
+pub mod Eta
+pub mod Ids
+pub mod Copies
+pub mod Graft
+pub mod Order

@@ -1,0 +1,1 @@
+// Slices of a run compose. Definitions and laws only, in specs/.

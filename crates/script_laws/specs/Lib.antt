@@ -1,0 +1,4 @@
+pub mod Slots
+pub mod Safe
+pub mod Tidy
+pub mod Loops

@@ -1,0 +1,1 @@
+// A run may be cut into slices. Laws only, in specs/.

@@ -1,0 +1,9 @@
+pub mod Core
+pub mod Track
+pub mod Edits
+pub mod Acting
+pub mod Numbers
+pub mod Ready
+pub mod Tries
+pub mod Visiting
+pub mod Counting

@@ -1,0 +1,2 @@
+pub mod WireEnds
+pub mod Ways
