@@ -3,18 +3,19 @@
 from collections import Counter, namedtuple
 
 import model
+from vectors import Vectors
 
 FLAT, TREE = 1, 65
 LARGEST_FILE = 500000
-LARGEST_STREAM = 2500000
 
-Vector = namedtuple("Vector", "call name expected data")
+Vector = namedtuple("Vector", "call name expected file")
 
 
-class Collection:
+class Collection(Vectors):
+    largest_stream = 2500000
+
     def __init__(self):
-        self.vectors = []
-        self.names = set()
+        super().__init__()
         self.given = set()
 
     def add(self, call, name, expected, data):
@@ -25,11 +26,9 @@ class Collection:
         found = model.verdict(data, call)
         if found != expected:
             raise SystemExit("%s: the author expects %d, the model answers %d" % (name, expected, found))
-        if name in self.names:
-            raise SystemExit("%s: two vectors of this name" % name)
+        self.take_name(name)
         if len(data) > LARGEST_FILE:
             raise SystemExit("%s: %d bytes" % (name, len(data)))
-        self.names.add(name)
         self.given.add((call, data))
         self.vectors.append(Vector(call, name, expected, data))
 
@@ -39,19 +38,11 @@ class Collection:
     def tree(self, name, expected, data):
         self.add(TREE, name, expected, data)
 
-    def stream(self):
-        """What the replay program reads."""
-        parts = []
-        for v in self.vectors:
-            parts.append(bytes([v.call, v.expected]) + len(v.data).to_bytes(4, "big") + v.data)
-        out = b"".join(parts)
-        if len(out) > LARGEST_STREAM:
-            raise SystemExit("%d bytes of stream" % len(out))
-        return out
+    def parts(self, v):
+        return [bytes([v.call, v.expected]), len(v.file).to_bytes(4, "big"), v.file]
 
-    def report(self):
-        """What the replay program writes when every answer is as expected."""
-        return b"%d files, 0 different\n" % len(self.vectors)
+    def row(self, v):
+        return v.expected, len(v.file), v.name
 
     def counts(self):
         """A line for each answer: how many vectors of each call expect it."""

@@ -8,8 +8,8 @@ LARGEST = 250           # bytes; a longer file shows no more
 def all_vectors(c):
     for v in list(c.vectors):
         other = TREE if v.call == FLAT else FLAT
-        if len(v.data) > LARGEST or ": cut " in v.name or (other, v.data) in c.given:
+        if len(v.file) > LARGEST or ": cut " in v.name or (other, v.file) in c.given:
             continue
-        if len(v.data) >= 5 and v.data[4] == other:
+        if len(v.file) >= 5 and v.file[4] == other:
             continue        # the version is the other call's: no wrong call
-        c.add(other, "wrong call, %s" % v.name, 2 if v.expected == 2 else 3, v.data)
+        c.add(other, "wrong call, %s" % v.name, 2 if v.expected == 2 else 3, v.file)

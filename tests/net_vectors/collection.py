@@ -3,10 +3,10 @@
 from collections import Counter, namedtuple
 
 import model
+from vectors import Vectors
 
 NONE = 0xFFFFFFFF
 LARGEST_FILE = 65536
-LARGEST_STREAM = 1500000
 MOST_CUT = 80           # steps; a longer run is not cut into slices of 1
 
 Vector = namedtuple("Vector", "name pools room cut refusal steps file result")
@@ -84,19 +84,16 @@ def by_model(data, pools, room):
         return refusal.number, engine.steps if engine else 0, b""
 
 
-class Collection:
+class Collection(Vectors):
     def __init__(self, original):
+        super().__init__()
         self.original = original
-        self.vectors = []
-        self.names = set()
 
     def add(self, name, data, pools, expected=None, room=None, endless=False):
         """A file for a run. Author, original and model must agree as far as each has an answer, else the making stops.
 
         Where `endless` is said, the run goes to its 14 and is not tried in the model, which is too slow for it."""
-        if name in self.names:
-            raise SystemExit("%s: two vectors of this name" % name)
-        self.names.add(name)
+        self.take_name(name)
         refusal, steps, result = (14, model.MOST, b"") if endless else by_model(data, pools, room)
         if expected not in (None, refusal):
             raise SystemExit("%s: the author expects %d, the model answers %d" % (name, expected, refusal))
@@ -112,21 +109,13 @@ class Collection:
         cut = not endless and steps <= MOST_CUT
         self.vectors.append(Vector(name, pools, room, cut, refusal, steps, data, result))
 
-    def stream(self):
-        """What the replay program reads."""
-        parts = []
-        for v in self.vectors:
-            numbers = ((len(v.file), 4), (v.pools[0], 2), (v.pools[1], 2), (v.pools[2], 2), (int(v.cut), 1), (v.refusal, 1),
-                       (v.steps, 4), (v.room, 4), (len(v.result), 4))
-            parts += [n.to_bytes(size, "big") for n, size in numbers] + [v.file, v.result]
-        out = b"".join(parts)
-        if len(out) > LARGEST_STREAM:
-            raise SystemExit("%d bytes of stream" % len(out))
-        return out
+    def parts(self, v):
+        numbers = ((len(v.file), 4), (v.pools[0], 2), (v.pools[1], 2), (v.pools[2], 2), (int(v.cut), 1), (v.refusal, 1),
+                   (v.steps, 4), (v.room, 4), (len(v.result), 4))
+        return [n.to_bytes(size, "big") for n, size in numbers] + [v.file, v.result]
 
-    def report(self):
-        """What the replay program writes when every answer is as expected."""
-        return b"%d files, 0 different\n" % len(self.vectors)
+    def row(self, v):
+        return v.refusal, v.steps, v.pools, len(v.file), v.name
 
     def counts(self):
         lines = ["| Answer | Files |", "|---|---|"]

@@ -39,6 +39,11 @@ toTree n =
 
 -- ---- resolve_links of a flat net: each wire of a pair takes the smaller number; pairs that occur nowhere stay
 
+-- the pairs whose wires are in none of these places
+unfoldable pub unused : List ℕ → List (ℕ × ℕ) → List (ℕ × ℕ)
+unused ws [] = []
+unused ws (p ∷ ps) = elim (any (eqb (p .0)) ws) [ true ↦ unused ws ps | false ↦ p ∷ unused ws ps ]
+
 unfoldable pub resolveFlat : FlatNet → FlatNet
 resolveFlat n =
     let l = linksOf (n .pairs) in
@@ -51,10 +56,6 @@ resolveFlat n =
       pairs = unused (places n) (n .pairs);
       nodes = map (λ m. let k : FlatNode = record { name = m .name; pri = c (m .pri); aux = map c (m .aux) } in k) (n .nodes);
     }
-  where
-    unused : List ℕ → List (ℕ × ℕ) → List (ℕ × ℕ)
-    unused ws [] = []
-    unused ws (p ∷ ps) = elim (any (eqb (p .0)) ws) [ true ↦ unused ws ps | false ↦ p ∷ unused ws ps ]
 
 -- ---- to_flat: a node takes a number before its children, left to right
 

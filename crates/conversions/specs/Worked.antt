@@ -87,5 +87,5 @@ worked =
     ∷ []
 
 pub conversions-worked : all (λ r. same (r .0) (r .1)) worked ≡ true
-unfolding same worked Checks.sameName Checks.pairWires Checks.pairsOrdered Checks.occurs Checks.places Checks.pairWired Checks.wireWired Checks.flatWired Checks.treesOf Checks.treeWired Checks.rulePaths Checks.namesFree Checks.limitFits Checks.field Checks.ordered Checks.wired Checks.freeNamed Checks.checked Checks.read Checks.write Checks.wiresOf Checks.nodesOf Read.byte Read.numberFrom Read.number Read.below Read.timesFrom Read.times Read.many Read.readChar Read.readPath Read.readName Read.readBit Read.readList Read.readTagged Read.readRule Read.readNode Read.readPair Read.readFlatNet Read.readWire Read.byTag Read.readTree Read.readLink Read.readTreeNet Read.limitOf Read.pathsFit Read.nodesFit Read.readBody Write.be Write.counted Write.writePath Write.writeName Write.writeList Write.writeRule Write.writeNode Write.writePair Write.writeHead Write.writeFlatNet Write.writeLink Write.writeTreeNet Write.limitNumber Write.writeBody Write.writeTree Calls.mapNets Calls.convert Calls.fitted Calls.converted Calls.flatFromTree Calls.treeFromFlat Calls.flatResolved Calls.treeResolved Calls.pruned Convert.each Convert.toTree Convert.resolveFlat Convert.fresh Convert.upOr Convert.hang Convert.embedLink Convert.toFlat Convert.embed Links.get Links.remove Links.insert Links.orElse Links.link Links.canonical Links.linksOf Links.from Links.pairsOf Prune.numberOf Prune.childrenOf Prune.fromNode Prune.fromNets Prune.next Prune.join Prune.reach Prune.keepNets Prune.prune Resolve.canonicalize Resolve.wireLinks Resolve.meet Resolve.pass Resolve.visit Resolve.visits Resolve.visitLink Resolve.put Resolve.sorted Resolve.withTrees Resolve.resolveAll Resolve.resolveTree Resolve.visitBy Resolve.deeper
+unfolding same worked Checks.sameName Checks.pairWires Checks.pairsOrdered Checks.occurs Checks.places Checks.pairWired Checks.wireWired Checks.flatWired Checks.treesOf Checks.treeWired Checks.rulePaths Checks.namesFree Checks.limitFits Checks.field Checks.ordered Checks.wired Checks.freeNamed Checks.checked Checks.read Checks.write Checks.wiresOf Checks.nodesOf Read.byte Read.numberFrom Read.number Read.below Read.timesFrom Read.times Read.many Read.readChar Read.readPath Read.readName Read.readBit Read.readList Read.readTagged Read.readRule Read.readNode Read.readPair Read.readFlatNet Read.readWire Read.byTag Read.readTree Read.readLink Read.readTreeNet Read.limitOf Read.pathsFit Read.nodesFit Read.readBody Write.be Write.counted Write.writePath Write.writeName Write.writeList Write.writeRule Write.writeNode Write.writePair Write.writeHead Write.writeFlatNet Write.writeLink Write.writeTreeNet Write.limitNumber Write.writeBody Write.writeTree Calls.mapNets Calls.convert Calls.fitted Calls.converted Calls.flatFromTree Calls.treeFromFlat Calls.flatResolved Calls.treeResolved Calls.pruned Convert.each Convert.toTree Convert.unused Convert.resolveFlat Convert.fresh Convert.upOr Convert.hang Convert.embedLink Convert.toFlat Convert.embed Links.get Links.remove Links.insert Links.orElse Links.link Links.canonical Links.linksOf Links.from Links.pairsOf Prune.numberOf Prune.childrenOf Prune.fromNode Prune.fromNets Prune.next Prune.join Prune.reach Prune.keepNets Prune.prune Resolve.canonicalize Resolve.wireLinks Resolve.meet Resolve.pass Resolve.visit Resolve.visits Resolve.visitLink Resolve.put Resolve.sorted Resolve.withTrees Resolve.resolveAll Resolve.resolveTree Resolve.visitBy Resolve.deeper
 conversions-worked = refl

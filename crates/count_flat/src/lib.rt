@@ -30,7 +30,7 @@ pub fn nets_nodes(s: &[u8], from: usize, n: u32) -> u32
     while 0 < k {
         let more = net_nodes(s, at);
         total = add(total, more as u32);
-        at = ends::flat_net_end(s, at);
+        at = ends::next_net(s, at, k);
         k -= 1;
     }
     total

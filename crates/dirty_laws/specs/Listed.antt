@@ -7,20 +7,28 @@ use native.Mathlib.Decide.{ℕ-discrete}
 use native.Mathlib.Omega.{arith}
 use mathlib.Core.Bool.{Bool, true, false, cond, true≢false, false≢true}
 use mathlib.Core.Option.{Option, none, some, Option·some-injective}
-use mathlib.Core.List.{List, [], _∷_, _++_, List·Memᴰ, List·Memᴰ·head, List·Memᴰ·not-nil, List·Memᴰ·append-cases, List·Memᴰ·eq-of-singleton, Memᴰ·append-left, Memᴰ·append-right}
+use mathlib.Core.List.{List, [], _∷_, _++_, List·Memᴰ, List·Memᴰ·head, List·Memᴰ·tail, List·Memᴰ·cases-cons, List·Memᴰ·not-nil, List·Memᴰ·append-cases, List·Memᴰ·eq-of-singleton, Memᴰ·append-left, Memᴰ·append-right}
 use lib.ListN.{length, length-append}
 use lib.Dec.{eqb, leb}
 use borrow.Author.Tests.{eqb-true, eqb-false, leb-false}
-use Rattle.net_file.specs.Lists.{bit}
-use Rattle.definitions.specs.Lists.{keep, unsnoc}
+use Rattle.net_file.specs.Lists.{bit, any}
+use Rattle.definitions.specs.Lists.{keep, firsts, unsnoc}
 use Rattle.definitions.specs.State.{Ids, withStale}
 use Rattle.definitions.specs.Books.{grown, push, tight, loose}
 use Rattle.dirty_laws.specs.Tally.{tally, tally-at, tally-most, tally-none}
-use Rattle.dirty_laws.specs.Firsts.{holds-all, keep-mem, firsts-mem, tight-count}
+use Rattle.dirty_laws.specs.Firsts.{holds-all, keep-mem, keep-true, firsts-mem, tight-count}
 
--- N slots; every live number is below N and in the list; what the list holds beyond the live ones is its stale count; it is within
--- its capacity, its stale entries are under half of a nonzero capacity, and the capacity is within 4N + 4
+-- "capacity 0, then 4, then doubles"
+pub data Capacity : ℕ → Type 0 where
+  nought : Capacity 0
+  four : Capacity 4
+  twice : {c : ℕ} → Capacity c → Capacity (2 * c)
+
+-- N slots; every entry is below N; every live number is in the list; what the list holds beyond the live ones is its stale count; it is
+-- within its capacity, its stale entries are under half of a nonzero capacity, and the capacity is within 4N + 4
 pub record Listed (N : ℕ) (live : ℕ → Bool) (l : Ids) : Type 0 where
+  pub slots : (n : ℕ) → List·Memᴰ n (l .items) → n < N
+  pub grows : Capacity (l .capacity)
   pub within : (n : ℕ) → live n ≡ true → n < N
   pub there : (n : ℕ) → live n ≡ true → List·Memᴰ n (l .items)
   pub counted : length (l .items) ≡ tally live N + l .stale
@@ -53,6 +61,15 @@ grown-fits N t stale len c h e l k b = go (eqb len c) refl (eqb c 0) refl
     go true p false q = let u = eqb-true len c p in let w = eqb-false c 0 q in (omega arith, omega arith, omega arith)
     go false p y q = let u = eqb-false len c p in (omega arith, omega arith, b)
 
+grown-grows : (len c : ℕ) → Capacity c → Capacity (grown c len)
+unfolding grown
+grown-grows len c h = go (eqb len c) (eqb c 0)
+  where
+    go : (x y : Bool) → Capacity (cond x (cond y 4 (2 * c)) c)
+    go true true = four
+    go true false = twice h
+    go false y = h
+
 -- a number becomes live, and gets an entry
 pub listed-push : (N : ℕ) (live live′ : ℕ → Bool) (l : Ids) (n : ℕ) → Listed N live l → n < N → live n ≡ false → Turns live live′ n true
     → Listed N live′ (push n l)
@@ -70,6 +87,8 @@ listed-push N live live′ l n b below was t =
     let g₀ = g .0 in
     let g₁ = g .1 in
     record {
+      slots = λ i m. slot i (List·Memᴰ·append-cases (l .items) m);
+      grows = grown-grows (length (l .items)) (l .capacity) (b .grows);
       within = λ i h. low i h (ℕ-discrete i n);
       there = λ i h. place i h (ℕ-discrete i n);
       counted = omega arith;
@@ -78,6 +97,10 @@ listed-push N live live′ l n b below was t =
       bound = g .2;
     }
   where
+    slot : (i : ℕ) → List·Memᴰ i (l .items) ⊎ List·Memᴰ i (n ∷ []) → i < N
+    slot i (inl m) = b .slots i m
+    slot i (inr m) = subst (λ (j : ℕ). j < N) (sym (List·Memᴰ·eq-of-singleton m)) below
+
     low : (i : ℕ) → live′ i ≡ true → Dec (i ≡ n) → i < N
     low i h (yes s) = omega arith
     low i h (no d) = b .within i (sym (t .others i d) ∙ h)
@@ -88,13 +111,28 @@ listed-push N live live′ l n b below was t =
 
 -- ---- tightened
 
+firsts-in : (xs seen : List ℕ) (n : ℕ) → List·Memᴰ n (firsts eqb seen xs) → List·Memᴰ n xs
+firsts-in [] seen n m = m
+firsts-in (x ∷ xs) seen n m = go (any (eqb x) seen) m (λ s. firsts-in xs s n)
+  where
+    go : (t : Bool) → List·Memᴰ n (elim t as (λ _. List ℕ) [ true ↦ firsts eqb seen xs | false ↦ x ∷ firsts eqb (x ∷ seen) xs ])
+        → ((s : List ℕ) → List·Memᴰ n (firsts eqb s xs) → List·Memᴰ n xs) → List·Memᴰ n (x ∷ xs)
+    go true k r = List·Memᴰ·tail (r seen k)
+    go false k r = via (List·Memᴰ·cases-cons k)
+      where
+        via : (n ≡ x) ⊎ List·Memᴰ n (firsts eqb (x ∷ seen) xs) → List·Memᴰ n (x ∷ xs)
+        via (inl e) = List·Memᴰ·head e
+        via (inr q) = List·Memᴰ·tail (r (x ∷ seen) q)
+
 tight-listed : (N : ℕ) (live : ℕ → Bool) (l : Ids) → ((n : ℕ) → live n ≡ true → n < N) → ((n : ℕ) → live n ≡ true → List·Memᴰ n (l .items))
-    → length (l .items) ≤ l .capacity → l .capacity ≤ 4 * N + 4 → Listed N live (tight live l)
+    → length (l .items) ≤ l .capacity → l .capacity ≤ 4 * N + 4 → Capacity (l .capacity) → Listed N live (tight live l)
 unfolding tight
-tight-listed N live l w h r c =
+tight-listed N live l w h r c g =
     let e = tight-count (l .items) live N w h in
     let k = holds-all (l .items) live N h in
     record {
+      slots = λ n m. w n (keep-true live (l .items) n (firsts-in (keep live (l .items)) [] n m));
+      grows = g;
       within = w;
       there = λ n m. firsts-mem (keep live (l .items)) [] n (keep-mem live (l .items) n m (h n m)) (λ s. List·Memᴰ·not-nil s);
       counted = omega arith;
@@ -104,7 +142,7 @@ tight-listed N live l w h r c =
     }
 
 pub listed-tight : (N : ℕ) (live : ℕ → Bool) (l : Ids) → Listed N live l → Listed N live (tight live l)
-listed-tight N live l b = tight-listed N live l (b .within) (b .there) (b .room) (b .bound)
+listed-tight N live l b = tight-listed N live l (b .within) (b .there) (b .room) (b .bound) (b .grows)
 
 -- ---- one less
 
@@ -124,7 +162,7 @@ listed-gone N live live′ l n b was t = go (leb (l .capacity) (2 * (l .stale + 
     l₁ = record { items = l .items; capacity = l .capacity; stale = l .stale + 1 }
 
     go : (x : Bool) → leb (l .capacity) (2 * (l .stale + 1)) ≡ x → Listed N live′ (elim x as (λ _. Ids) [ true ↦ tight live′ l₁ | false ↦ l₁ ])
-    go true e = tight-listed N live′ l₁ (λ i h. b .within i (turned-off t i h .0)) (λ i h. b .there i (turned-off t i h .0)) (b .room) (b .bound)
+    go true e = tight-listed N live′ l₁ (λ i h. b .within i (turned-off t i h .0)) (λ i h. b .there i (turned-off t i h .0)) (b .room) (b .bound) (b .grows)
     go false e =
         let a = tally-at live live′ n N (b .within n was) (t .others) in
         let x : bit (live n) ≡ 1 = ap bit was in
@@ -132,6 +170,8 @@ listed-gone N live live′ l n b was t = go (leb (l .capacity) (2 * (l .stale + 
         let u = leb-false (l .capacity) (2 * (l .stale + 1)) e in
         let c = b .counted in
         record {
+          slots = b .slots;
+          grows = b .grows;
           within = λ i h. b .within i (turned-off t i h .0);
           there = λ i h. b .there i (turned-off t i h .0);
           counted = omega arith;
@@ -182,6 +222,8 @@ listed-taken N live live′ l xs n b last was t =
     let c = b .counted in
     let r = b .room in
     record {
+      slots = λ i m. b .slots i (subst (List·Memᴰ i) (sym last) (Memᴰ·append-left (n ∷ []) m));
+      grows = b .grows;
       within = λ i h. b .within i (turned-off t i h .0);
       there = λ i h. let d = turned-off t i h in without xs n i (subst (List·Memᴰ i) last (b .there i (d .0))) (d .1);
       counted = omega arith;
@@ -202,7 +244,7 @@ listed-dropped N live l xs n b last was =
     let c = b .counted in
     let r = b .room in
     let u = b .half in
-    record { within = b .within; there = in′; counted = omega arith; room = omega arith; half = omega arith; bound = b .bound }
+    record { slots = λ i m. b .slots i (subst (List·Memᴰ i) (sym last) (Memᴰ·append-left (n ∷ []) m)); grows = b .grows; within = b .within; there = in′; counted = omega arith; room = omega arith; half = omega arith; bound = b .bound }
 
 -- ---- a new list, and one test for another
 
@@ -210,6 +252,8 @@ pub listed-new : (N : ℕ) (live : ℕ → Bool) → ((n : ℕ) → live n ≡ f
 listed-new N live h =
     let e = tally-none live N (λ i l. h i) in
     record {
+      slots = λ n m. absurd (List·Memᴰ·not-nil m);
+      grows = nought;
       within = λ n m. absurd (false≢true (sym (h n) ∙ m));
       there = λ n m. absurd (false≢true (sym (h n) ∙ m));
       counted = omega arith;

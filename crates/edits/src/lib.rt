@@ -10,13 +10,24 @@ pub enum Placed {
 }
 
 // A node with so many ports in slot n, all holes.
-fn fill(ws: &mut [u32], n: NodeId, t: NetId, name: u32, arity: u32)
+fn fill_slot(ws: &mut [u32], n: NodeId, t: NetId, name: u32, arity: u32)
     ensures { λ _. ⌜ now (ws .exit) ≡ fill (now (ws .entry)) (n .0) (t .0) name arity ⌝ }
 {
     layout::set_node_word(ws, n, 0, t.0);
     layout::set_node_word(ws, n, 1, name);
     layout::set_node_word(ws, n, 3, arity);
     graph::holes(ws, layout::principal(n), arity)
+}
+
+// The same either way; where the whole record is there, it is tested once and not for each word.
+fn fill(ws: &mut [u32], n: NodeId, t: NetId, name: u32, arity: u32)
+    ensures { λ _. ⌜ now (ws .exit) ≡ fill (now (ws .entry)) (n .0) (t .0) name arity ⌝ }
+{
+    if layout::node_at(n, 31) < ws.len() {
+        fill_slot(ws, n, t, name, arity)
+    } else {
+        fill_slot(ws, n, t, name, arity)
+    }
 }
 
 // A clean node. Slot before entry.

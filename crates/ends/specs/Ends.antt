@@ -7,6 +7,7 @@ use native.Mathlib.Decide.{decLt}
 use native.Mathlib.Numerals.{sub-one}
 use native.Mathlib.Nat.{not-suc-le-zero}
 use lib.ListN.{length}
+use Rattle.words.specs.Choose.{if-lt, lt-yes}
 use Rattle.fields.specs.Fields.{byte, be16}
 use Rattle.stored.specs.Stored.{tableEnd, listEnd, pathEnd, nameEnd, nodeEnd, pairCountAt, nodeCountAt, flatNetEnd}
 
@@ -77,15 +78,20 @@ module _ (s : List ℕ) (at : ℕ) where
   unfolding nameEnd
   name-is r h = h
 
-  pub node-small : (e : ℕ) → e ≡ within s (nameEnd s at) → length s ≤ 2 → length s ≡ within s (nodeEnd s at)
-  node-small e h l = omega (arith, node-past s at)
-
-  pub node-none : (e : ℕ) → e ≡ within s (nameEnd s at) → 2 < length s → length s - 2 ≤ e → length s ≡ within s (nodeEnd s at)
-  node-none e h i l = omega (arith, node-past s at)
-
-  pub node-is : (e r : ℕ) → e ≡ within s (nameEnd s at) → 2 < length s → e < length s - 2 → r ≡ within s (listEnd s (e + 2)) → r ≡ within s (nodeEnd s at)
+  -- a node ends where the wires do that stand after its name
+  pub node-is : (e r : ℕ) → e ≡ within s (nameEnd s at) → r ≡ within s (listEnd s (e + 2)) → r ≡ within s (nodeEnd s at)
   unfolding nodeEnd
-  node-is e r h i l g = let k : e ≡ nameEnd s at = omega arith in rw k at g
+  node-is e r h g = elim (decLt e (length s)) [
+    | yes l ↦ let k : e ≡ nameEnd s at = omega arith in rw k at g
+    | no l ↦ omega (arith, list-past s (e + 2), list-past s (nameEnd s at + 2))
+  ]
+
+module _ (s : List ℕ) (e : ℕ) where
+  pub wires-small : length s ≤ 2 → length s ≡ within s (listEnd s (e + 2))
+  wires-small l = omega (arith, list-past s (e + 2))
+
+  pub wires-none : 2 < length s → length s - 2 ≤ e → length s ≡ within s (listEnd s (e + 2))
+  wires-none i l = omega (arith, list-past s (e + 2))
 
 -- ---- a table of nodes
 
@@ -153,3 +159,13 @@ module _ (s : List ℕ) (at : ℕ) where
     pub net-is : (r k : ℕ) → 2 ≤ length s - q → k ≡ be16 s q → r ≡ within s (tableEnd (nodeEnd s) (q + 2) k) → r ≡ within s (flatNetEnd s at)
     unfolding flatNetEnd
     net-is r k l e g = let d : q ≡ nodeCountAt s at = omega arith in rw (e, d) at g
+
+-- ---- nets one after another
+
+-- the place after a flat net where another follows: of those that are left, the last one's end is nobody's beginning
+unfoldable pub next-net : List ℕ → ℕ → ℕ → ℕ
+next-net s at left = if-lt 1 left (within s (flatNetEnd s at)) at
+
+pub next-is : (s : List ℕ) (at a k : ℕ) → a ≡ next-net s at (suc (suc k)) → a ≡ within s (flatNetEnd s at)
+unfolding next-net
+next-is s at a k e = e ∙ sym (lt-yes 1 (suc (suc k)) _ _ (omega arith) refl)

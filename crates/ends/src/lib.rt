@@ -1,7 +1,8 @@
 // The place after each part of a flat file, by the counts that stand there; where that is past the end, the end.
+ghost use Prim.Native.Nat.{_+_};
 ghost use mathlib.Core.Path.{_≡_};
 ghost use Rattle.stored.specs.Stored.{tableEnd, listEnd, pathEnd, nameEnd, nodeEnd, ruleEnd, pairCountAt, nodeCountAt, flatNetEnd};
-ghost use Rattle.ends.specs.Ends.{within, on};
+ghost use Rattle.ends.specs.Ends.{within, on, next-net};
 
 // k bytes on.
 pub fn on(s: &[u8], at: usize, k: usize) -> usize
@@ -59,11 +60,11 @@ pub fn name_end(s: &[u8], at: usize) -> usize
     list_end(s, at + 10)
 }
 
-pub fn node_end(s: &[u8], at: usize) -> usize
-    ensures { λ r. ⌜ r ≡ within (now (s .entry)) (nodeEnd (now (s .entry)) at) ⌝ }
+// A node's wires, after its name: the principal one, then a list.
+pub fn wires_end(s: &[u8], e: usize) -> usize
+    ensures { λ r. ⌜ r ≡ within (now (s .entry)) (listEnd (now (s .entry)) (e + 2)) ⌝ }
 {
     let n = s.len();
-    let e = name_end(s, at);
     if n <= 2 {
         return n;
     }
@@ -71,6 +72,12 @@ pub fn node_end(s: &[u8], at: usize) -> usize
         return n;
     }
     list_end(s, e + 2)
+}
+
+pub fn node_end(s: &[u8], at: usize) -> usize
+    ensures { λ r. ⌜ r ≡ within (now (s .entry)) (nodeEnd (now (s .entry)) at) ⌝ }
+{
+    wires_end(s, name_end(s, at))
 }
 
 // n nodes, one after another.
@@ -129,4 +136,14 @@ pub fn flat_net_end(s: &[u8], at: usize) -> usize
         return n;
     }
     nodes_end(s, q + 2, k as u32)
+}
+
+// The place after a flat net where another follows; after the last of those that are left nothing is looked for.
+pub fn next_net(s: &[u8], at: usize, left: u32) -> usize
+    ensures { λ r. ⌜ r ≡ next-net (now (s .entry)) at left ⌝ }
+{
+    if 1 < left {
+        return flat_net_end(s, at);
+    }
+    at
 }

@@ -11,7 +11,7 @@ use Rattle.net_file.specs.Write.{be}
 use Rattle.fields.specs.Fields.{be16}
 use Rattle.stored.specs.Stored.{flatNetEnd, nameCountAt, netCountAt}
 use Rattle.put.specs.Written.{part}
-use Rattle.ends.specs.Ends.{within}
+use Rattle.ends.specs.Ends.{within, next-net, next-is}
 use Rattle.store.specs.Store.{store, between}
 use Rattle.layout.specs.Layout.{net-by-name}
 use Rattle.measure.specs.Measure.{path-joins}
@@ -31,9 +31,10 @@ module _ (ws file out : List ℕ) (t from at : ℕ) where
   included-written w o1 o2 o k first free counter pen ek ef e1 er ep ew e2 ec eo = rw (eo, ec, ep, ew, e2, er, ef, e1, ek)
 
 pub net-kept : (ws file out o : List ℕ) (from end at name t d r : ℕ) → name ≡ be16 file from → t ≡ net-by-name ws name → t ≡ 0
-    → o ≡ store at (between file from end) out → d ≡ end - from → r ≡ on at d → record { is = r; ws = ws; out = o } ≡ write-net ws file out from end at
+    → end ≡ within file (flatNetEnd file from) → o ≡ store at (between file from end) out → d ≡ end - from → r ≡ on at d
+    → record { is = r; ws = ws; out = o } ≡ write-net ws file out from (within file (flatNetEnd file from)) at
 unfolding write-net
-net-kept ws file out o from end at name t d r en et z eo ed er = eq-yes _ _ _ _ (rw (← en, ← et) z) (rw (eo, er, ed))
+net-kept ws file out o from end at name t d r en et z ee eo ed er = eq-yes _ _ _ _ (rw (← en, ← et) z) (rw (eo, er, ed, ee))
 
 pub net-anew : (ws w file out o : List ℕ) (from end at name t r : ℕ) → name ≡ be16 file from → t ≡ net-by-name ws name → (t ≡ 0 → ⊥)
     → r ≡ write-included ws file out t from at .is → w ≡ write-included ws file out t from at .ws → o ≡ write-included ws file out t from at .out
@@ -42,12 +43,14 @@ unfolding write-net
 net-anew ws w file out o from end at name t r en et z er ew eo =
     rw (← en, ← et) (eq-no _ _ _ _ z (whole (write-included ws file out t from at) er ew eo))
 
-pub nets-more : (ws w file out o : List ℕ) (from end k at r : ℕ) (x : Wrote ℕ) → write-nets ws file out from k at ≡ x → 0 < k
-    → end ≡ within file (flatNetEnd file from) → r ≡ write-net ws file out from end at .is → w ≡ write-net ws file out from end at .ws
-    → o ≡ write-net ws file out from end at .out → write-nets w file o end (k - 1) r ≡ x
+pub nets-more : (ws w file out o : List ℕ) (from place k at r : ℕ) (x : Wrote ℕ) → write-nets ws file out from k at ≡ x → 0 < k
+    → r ≡ write-net ws file out from (within file (flatNetEnd file from)) at .is → w ≡ write-net ws file out from (within file (flatNetEnd file from)) at .ws
+    → o ≡ write-net ws file out from (within file (flatNetEnd file from)) at .out → place ≡ next-net file from k
+    → write-nets w file o place (k - 1) r ≡ x
 unfolding write-nets
-nets-more ws w file out o from end zero at r x e h ee er ew eo = absurd (not-suc-le-zero h)
-nets-more ws w file out o from end (suc k) at r x e h ee er ew eo = rw (sub-one, er, ew, eo, ee) e
+nets-more ws w file out o from place zero at r x e h er ew eo ep = absurd (not-suc-le-zero h)
+nets-more ws w file out o from place (suc zero) at r x e h er ew eo ep = rw (er, ew, eo) e
+nets-more ws w file out o from place (suc (suc k)) at r x e h er ew eo ep = rw (sub-one, er, ew, eo, next-is file from place k ep) e
 
 pub nets-done : (ws file out : List ℕ) (from k at : ℕ) (x : Wrote ℕ) → write-nets ws file out from k at ≡ x → k ≤ 0 → record { is = at; ws = ws; out = out } ≡ x
 unfolding write-nets

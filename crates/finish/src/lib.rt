@@ -1,5 +1,7 @@
 // The result written: `finish` of engine.rs. Tables and nets that are not included are copied, included nets are written anew.
 ghost use mathlib.Core.Path.{_≡_};
+ghost use Rattle.stored.specs.Stored.{flatNetEnd};
+ghost use Rattle.ends.specs.Ends.{within};
 ghost use Rattle.finish.specs.Finish.{live-nodes, write-counts, write-net-head, write-included, write-net, write-nets, write-head, write-path, write-rest, write};
 use kinds::NetId;
 use write_nodes::Page;
@@ -64,19 +66,13 @@ fn write_included(
     pen.at
 }
 
-// The net from a place of the file up to an end; the place after it.
-fn write_net(
-    ws: &mut [u32],
-    file: &[u8],
-    out: &mut [u8],
-    from: usize,
-    end: usize,
-    at: usize,
-) -> usize
-    ensures { λ r. ⌜ (r ≡ write-net (now (ws .entry)) (now (file .entry)) (now (out .entry)) from end at .is) × (now (ws .exit) ≡ write-net (now (ws .entry)) (now (file .entry)) (now (out .entry)) from end at .ws) × (now (out .exit) ≡ write-net (now (ws .entry)) (now (file .entry)) (now (out .entry)) from end at .out) ⌝ }
+// The net at a place of the file; the place after it.
+fn write_net(ws: &mut [u32], file: &[u8], out: &mut [u8], from: usize, at: usize) -> usize
+    ensures { λ r. ⌜ (r ≡ write-net (now (ws .entry)) (now (file .entry)) (now (out .entry)) from (within (now (file .entry)) (flatNetEnd (now (file .entry)) from)) at .is) × (now (ws .exit) ≡ write-net (now (ws .entry)) (now (file .entry)) (now (out .entry)) from (within (now (file .entry)) (flatNetEnd (now (file .entry)) from)) at .ws) × (now (out .exit) ≡ write-net (now (ws .entry)) (now (file .entry)) (now (out .entry)) from (within (now (file .entry)) (flatNetEnd (now (file .entry)) from)) at .out) ⌝ }
 {
     let t = layout::net_by_name(ws, net_readers::net_name(file, from).0);
     if t.0 == 0 {
+        let end = ends::flat_net_end(file, from);
         store::copy(out, at, file, from, end);
         return write_nodes::on(at, measure::span(from, end));
     }
@@ -98,9 +94,8 @@ fn write_nets(
     let mut at = to;
     let mut left = count;
     while 0 < left {
-        let end = ends::flat_net_end(file, place);
-        at = write_net(ws, file, out, place, end, at);
-        place = end;
+        at = write_net(ws, file, out, place, at);
+        place = ends::next_net(file, place, left);
         left -= 1;
     }
     at

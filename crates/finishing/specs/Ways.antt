@@ -1,36 +1,22 @@
 -- What a function of the crate leaves on each way out, in the words of its tests and calls.
 use Prim.Native.Nat.{ℕ, _≤_, _<_, _%_}
 use mathlib.Core.Bool.{Bool, true, false}
-use mathlib.Core.Path.{_≡_, refl, sym}
+use mathlib.Core.Path.{_≡_, refl}
 use mathlib.Core.List.{List}
-use native.Mathlib.Omega.{arith}
 use lib.ListN.{length, take}
-use lib.Seq.{length-take-le}
 use lib.Dec.{leb}
 use borrow.Author.Tests.{le-leb, lt-leb}
-use Rattle.words.specs.Choose.{lt-split, pick-true, pick-false}
+use Rattle.words.specs.Choose.{pick-true, pick-false}
 use Rattle.measure.specs.Measure.{measure}
 use Rattle.measure.specs.declared.Size.{Size}
 use Rattle.write_nodes.specs.Wrote.{Wrote}
 use Rattle.finish.specs.Finish.{write}
 use Rattle.image.specs.Image.{resumable}
-use Rattle.layout.specs.Layout.{file-length}
 use Rattle.lent.specs.Lent.{room, held-length, zero-words, zero-bytes}
 use Rattle.lent.specs.declared.Pools.{Pools}
 use Rattle.lent.specs.declared.Answer.{Answer}
 use Rattle.lent.specs.declared.Answer.the-variants.{Done, Refused}
 use Rattle.finishing.specs.Finishing.{Given, given, on-answer, fits, result, delivered, finish-image, finish}
-
--- the held file is no longer than the bytes
-pub held-within : (ws bs : List ℕ) → held-length ws bs ≤ length bs
-unfolding held-length
-held-within ws bs = lt-split (file-length ws) (length bs) (file-length ws) (length bs) (λ x. x ≤ length bs) (λ l. omega arith) (λ l. omega arith)
-
-pub held-fits : (ws bs : List ℕ) (k : ℕ) → k ≡ held-length ws bs → k ≤ length bs
-held-fits ws bs k e = rw e (held-within ws bs)
-
-pub held-part : (ws bs : List ℕ) (k : ℕ) → k ≡ held-length ws bs → k ≡ length (take k bs)
-held-part ws bs k e = sym (length-take-le _ _ (held-fits ws bs k e))
 
 pub result-written : (ws w file out o : List ℕ) (size : Size) (t : Bool) → size ≡ measure ws file → t ≡ fits size (length out) → t ≡ true
     → w ≡ write ws file out (size .bytes) .ws → o ≡ write ws file out (size .bytes) .out

@@ -1,6 +1,6 @@
 -- `load` leaves good books, or is refused.
 use Prim.Native.Nat.{ℕ, zero, suc, _+_, _<_}
-use mathlib.Core.Path.{_≡_, refl, _∙_, subst}
+use mathlib.Core.Path.{_≡_, refl, sym, ap, _∙_, subst}
 use native.Mathlib.Omega.{arith}
 use mathlib.Core.Bool.{Bool, true, false}
 use mathlib.Core.Option.{Option, none, some}
@@ -159,6 +159,15 @@ none-waits (t ∷ ts) q (suc k) = none-waits ts (omega arith) k
 loaded-idle : (e : Engine) → waits e ≡ 0 → Idle e
 unfolding waits netAt
 loaded-idle e q k l z = none-waits (e .nets) q k
+
+-- no node waits after the load
+pub load-idle : (p : Pools) (f : File FlatNet) (e : Engine) → load p f ≡ ok e → (k : ℕ) → netAt e k .awaiting ≡ []
+unfolding load waits netAt
+load-idle p f e q k = go (load p f) (nets-loaded (freeName (f .paths)) (included f) (empty p f) (empty-good p f, empty-waits p f)) q
+  where
+    go : (r : Result Engine) → Answers Loaded r → r ≡ ok e → getD (e .nets) k (newNet (record { name = 0; free = 0 })) .awaiting ≡ []
+    go (ok e′) h s = none-waits (e .nets) (ap waits (sym (ok-injective s)) ∙ h .1) k
+    go (refuse r) h s = absurd (let z : _≡_ {A = ℕ} 0 1 = cc in omega arith)
 
 -- every run begins with good books
 pub load-good : (p : Pools) (f : File FlatNet) (e : Engine) → load p f ≡ ok e → Good rest e × Idle e

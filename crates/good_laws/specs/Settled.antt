@@ -48,11 +48,11 @@ went-awaits : (k : ℕ) (v : Engine) → awaits (wentDirty k v) ≡ awaits v
 unfolding withDirty
 went-awaits k v = ap awaits (went-is k v) ∙ fewer-awaits k v
 
-tighten-awaits : (k : ℕ) (e : Engine) → awaits (tightenNet k e) ≡ awaits e
+pub tighten-awaits : (k : ℕ) (e : Engine) → awaits (tightenNet k e) ≡ awaits e
 unfolding tightenNet withList
 tighten-awaits k e = over-part (λ t. t .awaiting) (λ t. withList (tight (holds (graphOf e) k) (t .list)) t) k e (λ t. refl)
 
-remove-awaits : (e : Engine) (n : ℕ) → awaits (removeNode e n) ≡ awaits e
+pub remove-awaits : (e : Engine) (n : ℕ) → awaits (removeNode e n) ≡ awaits e
 unfolding removeNode
 remove-awaits e n =
     let k = at (graphOf e) n .net in

@@ -1,2 +1,3 @@
 pub mod Dead
 pub mod Rest
+pub mod Nodes

@@ -11,17 +11,15 @@ use Rattle.layout.specs.Layout.{next, net-word, node-word, entry-word}
 use Rattle.marks.specs.Tests.{same, other, most, given}
 use Rattle.marks.specs.Marks.{clear, mark}
 use Rattle.marks.specs.Walks.{says}
+use Rattle.image_chains.specs.Chains.{is-new}
+use Rattle.image_chains.specs.declared.Pool.the-variants.{Entries}
 use Rattle.image_lists.specs.declared.Walk.{Walk}
 
 -- ---- entries and slots
 
--- entry c is in use and has not been met
-unfoldable pub is-new : List ℕ → List ℕ → ℕ → Bool
-is-new ws marks c = other c 0 (most c (getD ws 11 0) (clear marks c))
-
--- and its slot is in use
+-- entry c is in use, has not been met, and its slot is in use
 unfoldable pub entry-holds : List ℕ → List ℕ → ℕ → Bool
-entry-holds ws marks c = given (is-new ws marks c) (ltb (entry-word ws c 0) (getD ws 9 0))
+entry-holds ws marks c = given (is-new Entries ws marks c) (ltb (entry-word ws c 0) (getD ws 9 0))
 
 -- slot n holds a node of net t that has not been met
 unfoldable pub meets : List ℕ → List ℕ → ℕ → ℕ → Bool

@@ -1,30 +1,18 @@
 // The node lists of an image: chains that share no entry. A walk over them marks every entry and every node that it meets.
 ghost use mathlib.Core.Path.{_≡_};
 ghost use Rattle.marks.specs.Walks.{each-with};
-ghost use Rattle.image_lists.specs.Lists.{is-new, entry-holds, meets, meet, step, walk-list, sizes-hold, list-sizes-hold, end-holds, first-holds, starts, list-holds};
+ghost use Rattle.image_lists.specs.Lists.{entry-holds, meets, meet, step, walk-list, sizes-hold, list-sizes-hold, end-holds, first-holds, starts, list-holds};
+use image_chains::Pool;
 use kinds::NetId;
 use kinds::NodeId;
 
 // ---- marks: of entry c at c, of slot n at 16,385 + n
 
-// Entry c is in use and has not been met.
-pub fn is_new(ws: &[u32], marks: &[u8], c: u32) -> bool
-    ensures { λ r. ⌜ r ≡ is-new (now (ws .entry)) (now (marks .entry)) c ⌝ }
-{
-    if c == 0 {
-        return false;
-    }
-    if c <= words::get(ws, layout::FRESH_ENTRY) {
-        return marks::clear(marks, c as usize);
-    }
-    false
-}
-
-// And its slot is in use.
+// Entry c is in use, has not been met, and its slot is in use.
 fn entry_holds(ws: &[u32], marks: &[u8], c: u32) -> bool
     ensures { λ r. ⌜ r ≡ entry-holds (now (ws .entry)) (now (marks .entry)) c ⌝ }
 {
-    if is_new(ws, marks, c) {
+    if image_chains::is_new(ws, marks, Pool::Entries, c) {
         return layout::entry_word(ws, c, 0) < words::get(ws, layout::FRESH_SLOT);
     }
     false

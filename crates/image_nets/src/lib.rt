@@ -92,7 +92,7 @@ fn included_hold(ws: &[u32], file: &[u8], from: usize, count: u32) -> bool
         if t == 0 {
             return false;
         }
-        at = ends::flat_net_end(file, at);
+        at = ends::next_net(file, at, left);
         left -= 1;
     }
     counted(ws, t)

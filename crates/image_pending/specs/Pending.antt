@@ -9,9 +9,11 @@ use Rattle.words.specs.Choose.{if-eq, pick}
 use Rattle.words.specs.Left.{Left}
 use Rattle.layout.specs.Layout.{next, nets, net-word, node-word, wait-word}
 use Rattle.marks.specs.Tests.{each}
-use Rattle.marks.specs.Marks.{mark, met, all-met}
-use Rattle.marks.specs.Walks.{says, each-with, chain}
-use Rattle.image_waits.specs.Waits.{is-new, net-holds, after-wait}
+use Rattle.marks.specs.Marks.{met}
+use Rattle.marks.specs.Walks.{says, each-with}
+use Rattle.image_chains.specs.Chains.{pool-holds}
+use Rattle.image_chains.specs.declared.Pool.the-variants.{Waits}
+use Rattle.image_waits.specs.Waits.{net-holds}
 
 -- one more for net t
 unfoldable pub count : List ℕ → ℕ → List ℕ
@@ -55,17 +57,9 @@ pending-from ws marks tally = says (counts-hold ws (counted ws marks tally) (net
 unfoldable pub pending-holds : List ℕ → List ℕ → Bool
 pending-holds ws marks = pending-from ws marks (replicate 257 0) .is
 
--- the free waits
-unfoldable pub free-walk : List ℕ → List ℕ → Left Bool
-free-walk ws marks = chain (is-new ws) mark (after-wait ws) marks (getD ws 12 0) (getD ws 13 0)
-
--- every wait in use is on a net or free
-unfoldable pub free-hold : List ℕ → List ℕ → Left Bool
-free-hold ws marks = says (pick (free-walk ws marks .is) (all-met (free-walk ws marks .ws) 1 (getD ws 13 0)) false) (free-walk ws marks .ws)
-
 -- pending numbers, then the free waits, where the waits on nets left these marks
 unfoldable pub rest-holds : List ℕ → List ℕ → Left Bool
-rest-holds ws marks = pick (pending-holds ws marks) (free-hold ws marks) (says false marks)
+rest-holds ws marks = pick (pending-holds ws marks) (pool-holds Waits ws marks) (says false marks)
 
 -- the waits on nets, and the rest
 unfoldable pub all-hold : List ℕ → List ℕ → Left Bool

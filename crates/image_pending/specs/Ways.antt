@@ -6,13 +6,15 @@ use mathlib.Core.List.{List}
 use lib.ListN.{getD}
 use native.Mathlib.Nat.{not-suc-le-zero}
 use native.Mathlib.Numerals.{sub-one}
-use Rattle.words.specs.Choose.{pick, pick-true, pick-false}
+use Rattle.words.specs.Choose.{pick-true, pick-false}
 use Rattle.words.specs.Left.{Left, whole}
 use Rattle.layout.specs.Layout.{next, nets, wait-word}
-use Rattle.marks.specs.Marks.{mark, met, all-met}
-use Rattle.marks.specs.Walks.{says, each-with, chain}
-use Rattle.image_waits.specs.Waits.{is-new, net-holds, after-wait}
-use Rattle.image_pending.specs.Pending.{count, count-node, count-nodes, count-wait, count-waits, counts-hold, counted, pending-from, pending-holds, free-walk, free-hold, rest-holds, all-hold}
+use Rattle.marks.specs.Marks.{met}
+use Rattle.marks.specs.Walks.{says, each-with}
+use Rattle.image_chains.specs.Chains.{pool-holds}
+use Rattle.image_chains.specs.declared.Pool.the-variants.{Waits}
+use Rattle.image_waits.specs.Waits.{net-holds}
+use Rattle.image_pending.specs.Pending.{count, count-node, count-nodes, count-wait, count-waits, counts-hold, counted, pending-from, pending-holds, rest-holds, all-hold}
 
 -- ---- counting
 
@@ -54,24 +56,6 @@ pending-counted ws marks tally m m′ s w t r es em ew em′ et er = rw (er, em�
 
 -- ---- waits
 
-module _ (ws marks m : List ℕ) (c k : ℕ) (b : Bool) (ek : k ≡ getD ws 13 0) (ec : c ≡ getD ws 12 0)
-    (eb : b ≡ chain (is-new ws) mark (after-wait ws) marks c k .is) (em : m ≡ chain (is-new ws) mark (after-wait ws) marks c k .ws) where
-  walk-is : b ≡ free-walk ws marks .is
-  unfolding free-walk
-  walk-is = rw (ec, ek) at eb
-
-  walk-left : m ≡ free-walk ws marks .ws
-  unfolding free-walk
-  walk-left = rw (ec, ek) at em
-
-  pub free-yes : (a : Bool) → b ≡ true → a ≡ all-met m 1 k → says a m ≡ free-hold ws marks
-  unfolding free-hold
-  free-yes a y ea = rw (← walk-left) (ap (λ r. says r m) (pick-true _ _ _ (sym walk-is ∙ y) (rw ek at ea)))
-
-  pub free-no : b ≡ false → says false m ≡ free-hold ws marks
-  unfolding free-hold
-  free-no y = rw (← walk-left) (ap (λ r. says r m) (pick-false _ _ _ (sym walk-is ∙ y) refl))
-
 module _ (ws marks m : List ℕ) (k : ℕ) (b : Bool) (ek : k ≡ nets ws)
     (eb : b ≡ each-with (net-holds ws) marks 1 k .is) (em : m ≡ each-with (net-holds ws) marks 1 k .ws) where
   go-on : (x : Left Bool) → b ≡ true → x ≡ rest-holds ws m → x ≡ all-hold ws marks
@@ -87,6 +71,6 @@ module _ (ws marks m : List ℕ) (k : ℕ) (b : Bool) (ek : k ≡ nets ws)
     unfolding rest-holds
     all-pending-no z = go-on _ y (pick-false _ _ _ (sym ed ∙ z) refl)
 
-    pub all-yes : (n : List ℕ) (a : Bool) → d ≡ true → a ≡ free-hold ws m .is → n ≡ free-hold ws m .ws → says a n ≡ all-hold ws marks
+    pub all-yes : (n : List ℕ) (a : Bool) → d ≡ true → a ≡ pool-holds Waits ws m .is → n ≡ pool-holds Waits ws m .ws → says a n ≡ all-hold ws marks
     unfolding rest-holds
-    all-yes n a z ea en = go-on _ y (pick-true _ _ _ (sym ed ∙ z) (whole (free-hold ws m) ea en))
+    all-yes n a z ea en = go-on _ y (pick-true _ _ _ (sym ed ∙ z) (whole (pool-holds Waits ws m) ea en))

@@ -1,7 +1,8 @@
 // The pending numbers of an image, which count the dirty nodes of a net and the waits that its nodes made; and its waits, each on
 // a net or free.
 ghost use mathlib.Core.Path.{_≡_};
-ghost use Rattle.image_pending.specs.Pending.{count, count-node, count-nodes, count-wait, count-waits, count-holds, counts-hold, pending-from, pending-holds, free-hold, all-hold, waits-hold};
+ghost use Rattle.image_pending.specs.Pending.{count, count-node, count-nodes, count-wait, count-waits, count-holds, counts-hold, pending-from, pending-holds, all-hold, waits-hold};
+use image_chains::Pool;
 use kinds::NetId;
 use kinds::NodeId;
 
@@ -97,23 +98,12 @@ fn pending_holds(ws: &[u32], marks: &[u8]) -> bool
     pending_from(ws, marks, &mut tally)
 }
 
-// Every wait in use that is on no net is free.
-fn free_hold(ws: &[u32], marks: &mut [u8]) -> bool
-    ensures { λ r. ⌜ (r ≡ free-hold (now (ws .entry)) (now (marks .entry)) .is) × (now (marks .exit) ≡ free-hold (now (ws .entry)) (now (marks .entry)) .ws) ⌝ }
-{
-    let k = words::get(ws, layout::FRESH_WAIT);
-    if image_waits::free_waits_hold(ws, marks, words::get(ws, layout::FREE_WAIT), k) {
-        return marks::all_met(marks, 1, k);
-    }
-    false
-}
-
 fn all_hold(ws: &[u32], marks: &mut [u8]) -> bool
     ensures { λ r. ⌜ (r ≡ all-hold (now (ws .entry)) (now (marks .entry)) .is) × (now (marks .exit) ≡ all-hold (now (ws .entry)) (now (marks .entry)) .ws) ⌝ }
 {
     if image_waits::each_net_holds(ws, marks, words::get(ws, layout::NETS)) {
         if pending_holds(ws, marks) {
-            return free_hold(ws, marks);
+            return image_chains::pool_holds(ws, marks, Pool::Waits);
         }
         return false;
     }

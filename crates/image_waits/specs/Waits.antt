@@ -8,12 +8,10 @@ use Rattle.words.specs.Choose.{pick}
 use Rattle.words.specs.Left.{Left}
 use Rattle.layout.specs.Layout.{nets, net-word, wait-word}
 use Rattle.marks.specs.Tests.{same, other, most, given}
-use Rattle.marks.specs.Marks.{clear, mark}
+use Rattle.marks.specs.Marks.{mark}
 use Rattle.marks.specs.Walks.{says}
-
--- wait c is in use and has not been met
-unfoldable pub is-new : List ℕ → List ℕ → ℕ → Bool
-is-new ws marks c = other c 0 (most c (getD ws 13 0) (clear marks c))
+use Rattle.image_chains.specs.Chains.{is-new}
+use Rattle.image_chains.specs.declared.Pool.the-variants.{Waits}
 
 -- wait c is that of a slot in use, and of a net
 unfoldable pub wait-holds : List ℕ → ℕ → Bool
@@ -21,9 +19,9 @@ wait-holds ws c =
     let t = wait-word ws c 1 in
     other t 0 (most t (nets ws) (ltb (wait-word ws c 0) (getD ws 9 0)))
 
--- both
+-- wait c is in use, has not been met, and is in order
 unfoldable pub is-wait : List ℕ → List ℕ → ℕ → Bool
-is-wait ws marks c = given (is-new ws marks c) (wait-holds ws c)
+is-wait ws marks c = given (is-new Waits ws marks c) (wait-holds ws c)
 
 -- a walk that has come to wait c, past `last`, is at the end of net t's: c is 0, and `last` its last wait, 0 where it has none
 unfoldable pub end-holds : List ℕ → ℕ → ℕ → ℕ → Bool
@@ -42,7 +40,3 @@ idle ws t = same (net-word ws t 7) 0 (ltb 0 (net-word ws t 8))
 -- "no wait on a net at 0", and the waits on net t are in order
 unfoldable pub net-holds : List ℕ → List ℕ → ℕ → Left Bool
 net-holds ws marks t = pick (idle ws t) (says false marks) (waits-from ws marks t (net-word ws t 8) 0 (getD ws 13 0))
-
--- the wait after wait c
-abbrev pub after-wait : List ℕ → ℕ → ℕ
-after-wait ws c = wait-word ws c 2

@@ -1,22 +1,9 @@
 // The waits of an image: chains that share none. Marks: of wait c at c.
 ghost use mathlib.Core.Path.{_≡_};
-ghost use Rattle.marks.specs.Marks.{mark};
-ghost use Rattle.marks.specs.Walks.{each-with, chain};
-ghost use Rattle.image_waits.specs.Waits.{is-new, wait-holds, is-wait, end-holds, waits-from, idle, net-holds, after-wait};
+ghost use Rattle.marks.specs.Walks.{each-with};
+ghost use Rattle.image_waits.specs.Waits.{wait-holds, is-wait, end-holds, waits-from, idle, net-holds};
+use image_chains::Pool;
 use kinds::NetId;
-
-// Wait c is in use and has not been met.
-fn is_new(ws: &[u32], marks: &[u8], c: u32) -> bool
-    ensures { λ r. ⌜ r ≡ is-new (now (ws .entry)) (now (marks .entry)) c ⌝ }
-{
-    if c == 0 {
-        return false;
-    }
-    if c <= words::get(ws, layout::FRESH_WAIT) {
-        return marks::clear(marks, c as usize);
-    }
-    false
-}
 
 // Wait c is that of a slot in use, and of a net.
 fn wait_holds(ws: &[u32], c: u32) -> bool
@@ -35,7 +22,7 @@ fn wait_holds(ws: &[u32], c: u32) -> bool
 fn is_wait(ws: &[u32], marks: &[u8], c: u32) -> bool
     ensures { λ r. ⌜ r ≡ is-wait (now (ws .entry)) (now (marks .entry)) c ⌝ }
 {
-    if is_new(ws, marks, c) {
+    if image_chains::is_new(ws, marks, Pool::Waits, c) {
         return wait_holds(ws, c);
     }
     false
@@ -106,25 +93,4 @@ pub fn each_net_holds(ws: &[u32], marks: &mut [u8], k: u32) -> bool
         }
     }
     true
-}
-
-// The free waits from c on, at most k.
-pub fn free_waits_hold(ws: &[u32], marks: &mut [u8], first: u32, k: u32) -> bool
-    ensures { λ r. ⌜ (r ≡ chain (is-new (now (ws .entry))) mark (after-wait (now (ws .entry))) (now (marks .entry)) first k .is) × (now (marks .exit) ≡ chain (is-new (now (ws .entry))) mark (after-wait (now (ws .entry))) (now (marks .entry)) first k .ws) ⌝ }
-{
-    let mut c = first;
-    let mut left = k;
-    while 0 < left {
-        if c == 0 {
-            return true;
-        }
-        if is_new(ws, marks, c) {
-            marks::see(marks, c);
-            c = layout::wait_word(ws, c, 2);
-            left -= 1;
-        } else {
-            return false;
-        }
-    }
-    c == 0
 }

@@ -1,11 +1,13 @@
 -- What the calls are lent, and what a call leaves. Level Words. docs/IMAGE.md has the lengths.
-use Prim.Native.Nat.{ℕ, _+_, _*_}
+use Prim.Native.Nat.{ℕ, _+_, _*_, _≤_}
 use mathlib.Core.Bool.{Bool, false}
-use mathlib.Core.Path.{_≡_, ap}
+use mathlib.Core.Path.{_≡_, ap, sym}
 use mathlib.Core.List.{List}
-use lib.ListN.{length}
+use lib.ListN.{length, take}
+use lib.Seq.{length-take-le}
 use lib.Dec.{leb}
-use Rattle.words.specs.Choose.{pick, if-lt}
+use native.Mathlib.Omega.{arith}
+use Rattle.words.specs.Choose.{pick, if-lt, lt-split}
 use Rattle.layout.specs.Layout.{file-length}
 use Rattle.clear.specs.Zeroed.{zeroed}
 use Rattle.lent.specs.declared.Pools.{Pools}
@@ -44,6 +46,15 @@ room p ws = pick (pools-fit p) (leb (words-of p) (length ws)) false
 -- the length of the held file, or of the bytes where they are fewer
 unfoldable pub held-length : List ℕ → List ℕ → ℕ
 held-length ws bs = if-lt (file-length ws) (length bs) (file-length ws) (length bs)
+
+-- the held file is no longer than the bytes
+pub held-fits : (ws bs : List ℕ) (k : ℕ) → k ≡ held-length ws bs → k ≤ length bs
+unfolding held-length
+held-fits ws bs k e = rw e (lt-split (file-length ws) (length bs) _ _ (λ (x : ℕ). x ≤ length bs) (λ h. omega arith) (λ h. omega arith))
+
+-- so it is a part of them
+pub held-part : (ws bs : List ℕ) (k : ℕ) → k ≡ held-length ws bs → k ≡ length (take k bs)
+held-part ws bs k e = sym (length-take-le _ _ (held-fits ws bs k e))
 
 -- the words as a refusal or a finish leaves them: "fills it with zeros up to its documented length"
 unfoldable pub zero-words : Pools → List ℕ → List ℕ

@@ -21,7 +21,7 @@ fn list(out: &mut [u8], from: usize, s: &[u8], at: usize) -> usize
 {
     let mut p = from;
     let mut j: u32 = 0;
-    let mut k = fields::byte(s, at);
+    let mut k = reader::list_count(s, at);
     while 0 < k {
         let v = readers::be16_on(s, at, 1 + 2 * (j as usize));
         p = text_writers::number(out, p, v as u64);
@@ -121,9 +121,9 @@ fn net_head(out: &mut [u8], from: usize, s: &[u8], at: usize) -> usize
     ensures { λ r. ⌜ Wrote (netText (now (s .entry)) at) from (now (out .entry)) (now (out .exit)) r ⌝ }
 {
     let p = text_writers::word(out, from, b"net");
-    let q = text_writers::number(out, p, fields::be16(s, at) as u64);
+    let q = text_writers::number(out, p, reader::net_name(s, at) as u64);
     let t = text_writers::word(out, q, b" wires");
-    text_writers::number(out, t, net_readers::net_wires(s, at) as u64)
+    text_writers::number(out, t, reader::net_wires(s, at) as u64)
 }
 
 // `free` and the free wires; the line's end.

@@ -10,8 +10,8 @@ use native.Mathlib.Numerals.{sub-one}
 use Rattle.words.specs.Choose.{lt-yes, lt-no, pick-true, pick-false}
 use Rattle.words.specs.Left.{Left, whole}
 use Rattle.fields.specs.Fields.{byte, be16, be32}
-use Rattle.stored.specs.Stored.{nameEnd, nodeEnd, nodeCountAt, flatNetEnd}
-use Rattle.ends.specs.Ends.{within, on}
+use Rattle.stored.specs.Stored.{listEnd, nameEnd, nodeEnd, nodeCountAt, flatNetEnd}
+use Rattle.ends.specs.Ends.{within, on, node-is, next-net, next-is}
 use Rattle.layout.specs.Layout.{next, nets, set-net-word, principal}
 use Rattle.graph.specs.Graph.{link}
 use Rattle.kinds.specs.declared.NodeId.{NodeId}
@@ -37,14 +37,15 @@ pub node-refused : (ws wires file w : List ℕ) (net at e k r : ℕ) (p : Placed
 unfolding add-node on-placed
 node-refused ws wires file w net at e k r p ee ek ep ew h = rw (← ee, ← ek, ← ep, h, ew)
 
-pub nodes-more : (ws wires file w t : List ℕ) (net at a r k : ℕ) (x : Added) → add-nodes ws wires file net at k ≡ x → 0 < k
+pub nodes-more : (ws wires file w t : List ℕ) (net at e a r k : ℕ) (x : Added) → add-nodes ws wires file net at k ≡ x → 0 < k
+    → e ≡ within file (nameEnd file at) → a ≡ within file (listEnd file (e + 2))
     → r ≡ add-node ws wires file net at .is → w ≡ add-node ws wires file net at .ws → t ≡ add-node ws wires file net at .wires → r ≤ 0
-    → a ≡ within file (nodeEnd file at) → add-nodes w t file net a (k - 1) ≡ x
+    → add-nodes w t file net a (k - 1) ≡ x
 unfolding add-nodes
-nodes-more ws wires file w t net at a r zero x e h er ew et z ea = absurd (not-suc-le-zero h)
-nodes-more ws wires file w t net at a r (suc k) x e h er ew et z ea =
+nodes-more ws wires file w t net at e a r zero x g h ee ea er ew et z = absurd (not-suc-le-zero h)
+nodes-more ws wires file w t net at e a r (suc k) x g h ee ea er ew et z =
     let n = add-node ws wires file net at in
-    rw (sub-one, ew, et, ea) (lt-no 0 (n .is) n (add-nodes (n .ws) (n .wires) file net (within file (nodeEnd file at)) k) (rw (← er) z) refl ∙ e)
+    rw (sub-one, ew, et, node-is file at e a ee ea) (lt-no 0 (n .is) n (add-nodes (n .ws) (n .wires) file net (within file (nodeEnd file at)) k) (rw (← er) z) refl ∙ g)
 
 pub nodes-refused : (ws wires file w t : List ℕ) (net at r k : ℕ) (x : Added) → add-nodes ws wires file net at k ≡ x → 0 < k
     → r ≡ add-node ws wires file net at .is → w ≡ add-node ws wires file net at .ws → t ≡ add-node ws wires file net at .wires → 0 < r
@@ -117,12 +118,15 @@ unfolding add-if-included
 net-out ws file at b eb h = pick-false _ _ _ (rw (← eb) h) refl
 
 pub nets-more : (ws file w : List ℕ) (at a r k : ℕ) (x : Left ℕ) → add-flat-nets ws file at k ≡ x → 0 < k → r ≡ add-if-included ws file at .is
-    → w ≡ add-if-included ws file at .ws → r ≤ 0 → a ≡ within file (flatNetEnd file at) → add-flat-nets w file a (k - 1) ≡ x
+    → w ≡ add-if-included ws file at .ws → r ≤ 0 → a ≡ next-net file at k → add-flat-nets w file a (k - 1) ≡ x
 unfolding add-flat-nets
 nets-more ws file w at a r zero x e h er ew z ea = absurd (not-suc-le-zero h)
-nets-more ws file w at a r (suc k) x e h er ew z ea =
+nets-more ws file w at a r (suc zero) x e h er ew z ea =
     let n = add-if-included ws file at in
-    rw (sub-one, ew, ea) (lt-no 0 (n .is) n (add-flat-nets (n .ws) file (within file (flatNetEnd file at)) k) (rw (← er) z) refl ∙ e)
+    rw ew (lt-no 0 (n .is) n (record { is = 0; ws = n .ws }) (rw (← er) z) refl ∙ e)
+nets-more ws file w at a r (suc (suc k)) x e h er ew z ea =
+    let n = add-if-included ws file at in
+    rw (sub-one, ew, next-is file at a k ea) (lt-no 0 (n .is) n (add-flat-nets (n .ws) file (within file (flatNetEnd file at)) (suc k)) (rw (← er) z) refl ∙ e)
 
 pub nets-refused : (ws file w : List ℕ) (at r k : ℕ) (x : Left ℕ) → add-flat-nets ws file at k ≡ x → 0 < k → r ≡ add-if-included ws file at .is
     → w ≡ add-if-included ws file at .ws → 0 < r → record { is = r; ws = w } ≡ x

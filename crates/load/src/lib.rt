@@ -1,5 +1,7 @@
 // Included nets come into the engine: `add_flat_nets` and `add_flat_net` of engine.rs.
 ghost use mathlib.Core.Path.{_≡_};
+ghost use Rattle.stored.specs.Stored.{nameEnd};
+ghost use Rattle.ends.specs.Ends.{within};
 ghost use Rattle.layout.specs.Layout.{next, nets};
 ghost use Rattle.load.specs.Load.{join-node, join-free, add-node, add-nodes, add-free, add-all, add-wired, add-sized, new-net, add-flat-net, add-if-included, add-flat-nets, load};
 use edits::Placed;
@@ -24,11 +26,11 @@ fn join_node(ws: &mut [u32], wires: &mut [u32], file: &[u8], at: usize, n: NodeI
     )
 }
 
-// The node at a place; 0, or the number by which it is refused.
-fn add_node(ws: &mut [u32], wires: &mut [u32], file: &[u8], t: NetId, at: usize) -> u32
+// The node at a place, whose name ends at e; 0, or the number by which it is refused.
+fn add_node(ws: &mut [u32], wires: &mut [u32], file: &[u8], t: NetId, at: usize, e: usize) -> u32
+    requires { ⌜ e ≡ within (now file) (nameEnd (now file) at) ⌝ }
     ensures { λ r. ⌜ (r ≡ add-node (now (ws .entry)) (now (wires .entry)) (now (file .entry)) (t .0) at .is) × (now (ws .exit) ≡ add-node (now (ws .entry)) (now (wires .entry)) (now (file .entry)) (t .0) at .ws) × (now (wires .exit) ≡ add-node (now (ws .entry)) (now (wires .entry)) (now (file .entry)) (t .0) at .wires) ⌝ }
 {
-    let e = ends::name_end(file, at);
     let k = readers::byte_on(file, e, 2) as u32;
     let placed = edits::insert_node(ws, t, (at % 4294967296) as u32, 1 + k);
     match placed {
@@ -54,11 +56,13 @@ fn add_nodes(
     let mut at = from;
     let mut left = count;
     while 0 < left {
-        let r = add_node(ws, wires, file, t, at);
+        let e = ends::name_end(file, at);
+        let end = ends::wires_end(file, e);
+        let r = add_node(ws, wires, file, t, at, e);
         if 0 < r {
             return r;
         }
-        at = ends::node_end(file, at);
+        at = end;
         left -= 1;
     }
     0
@@ -187,7 +191,7 @@ fn add_flat_nets(ws: &mut [u32], file: &[u8], from: usize, count: u32) -> u32
         if 0 < r {
             return r;
         }
-        at = ends::flat_net_end(file, at);
+        at = ends::next_net(file, at, left);
         left -= 1;
     }
     0

@@ -2,38 +2,42 @@
 use mathlib.Core.Path.{_≡_, refl, sym, ap, _∙_, subst}
 use mathlib.Core.Logic.{_≢_, _⊎_, inl, inr}
 use Prim.Native.Nat.{ℕ, zero, suc, _+_, _<_, _≤_}
-use native.Mathlib.Decide.{ℕ-discrete}
 use native.Mathlib.Omega.{arith}
-use mathlib.Core.Bool.{Bool, true, false, not, _&&_, _||_, true≢false, false≢true}
+use mathlib.Core.Bool.{Bool, true, false, not, _&&_, _||_, true≢false}
 use mathlib.Core.Option.{Option, none, some}
-use mathlib.Core.List.{List, [], _∷_, _++_, map, List·Memᴰ, List·Memᴰ·head, List·Memᴰ·tail, List·Memᴰ·cases-cons, List·Memᴰ·not-nil, List·Memᴰ·eq-of-singleton, Memᴰ·append-left}
-use lib.ListN.{length, getD, replicate, length-replicate}
+use mathlib.Core.List.{List, [], _∷_, _++_, map, append-nil, append-assoc, List·Memᴰ, List·Memᴰ·head, List·Memᴰ·tail, List·Memᴰ·cases-cons, List·Memᴰ·not-nil, List·Memᴰ·eq-of-singleton, Memᴰ·append-left}
+use lib.ListN.{length, getD, replicate, length-append, length-replicate}
 use lib.Dec.{eqb, T}
 use Rattle.list_laws.specs.Tests.{both}
+use Rattle.list_laws.specs.Lists.{any-append}
 use Rattle.net_file.specs.Lists.{Result, ok, refuse, all, any, distinct, ascend, eqs}
-use Rattle.net_file.specs.Values.{Name, FlatNet, File, Rule, graft, annihilate, erase, commute, eta, freePath}
+use Rattle.net_file.specs.Values.{Name, FlatNode, FlatNet, File, Rule, graft, annihilate, erase, commute, eta, freePath}
 use Rattle.net_file.specs.Checks.{flat, sameName, pairsOrdered, flatWired, rulePaths, namesFree, freeNamed, ordered, wired, read}
 use Rattle.net_file_laws.specs.Bytes.{Bytes}
 use Rattle.net_file_laws.specs.Exact.{Each}
+use Rattle.net_file_laws.specs.Parts.{NameFits}
 use Rattle.net_file_laws.specs.Rules.{RuleFits}
-use Rattle.net_file_laws.specs.Flat.{FlatNetFits}
+use Rattle.net_file_laws.specs.Flat.{NodeFits, FlatNetFits}
 use Rattle.net_file_laws.specs.RoundTrip.{Spells, flat-write-read}
-use Rattle.definitions.specs.Lists.{_>>=_, isSome, orElse, keep, place, each, nth, from, upTo}
+use Rattle.definitions.specs.Lists.{_>>=_, isSome, orElse, keep, find, place, each, nth, from}
 use Rattle.definitions.specs.Nets.{Port, Node, Graph, Home, nowhere, at, filled, holds, arity, across}
+use Rattle.definitions.specs.Scripts.{Edit, Join}
+use Rattle.definitions.specs.Rules.{new}
 use Rattle.definitions.specs.Step.{rewrites}
 use Rattle.definitions.specs.State.{Pools, Engine}
-use Rattle.definitions.specs.Load.{withFreePath, freeName, addFlatNet, empty, included, load}
-use Rattle.join_laws.specs.Link.{Wired}
-use Rattle.script_laws.specs.Tidy.{WellWired}
+use Rattle.definitions.specs.Load.{withFreePath, freeName, End, endsAt, joinMet, loadNodes, loadNet, addFlatNet, empty, included, load}
+use Rattle.join_laws.specs.Ports.{arity-same}
 use Rattle.rule_laws.specs.Ids.{distinct-row}
 use Rattle.rule_laws.specs.Rows.{mem-row, row-mem}
-use Rattle.graph_laws.specs.Rest.{Rest, Unnamed}
+use Rattle.graph_laws.specs.Rest.{Rest, Unnamed, holds-filled}
+use Rattle.graph_laws.specs.Nodes.{AllNodes, Brings, edits-nodes, brings-append}
 use Rattle.step_laws.specs.Core.{Core, coreOf}
-use Rattle.step_laws.specs.Track.{Tracked}
 use Rattle.step_laws.specs.Edits.{Then}
 use Rattle.step_laws.specs.Ready.{Ready}
+use Rattle.step_laws.specs.First.{Firsts}
 use Rattle.load_laws.specs.Finds.{all-mem}
-use Rattle.load_laws.specs.Loaded.{Loaded, NetFine, net-loaded}
+use Rattle.load_laws.specs.Ends.{ends-length}
+use Rattle.load_laws.specs.Loaded.{Loaded, NetFine, Added, map-snoc, net-loaded, net-first}
 
 -- ---- no node
 
@@ -106,24 +110,90 @@ empty-loaded path p f = record {
 
 -- ---- all nets
 
-abbrev AllFine : List FlatNet → Type 0
-AllFine ts = (t : FlatNet) → List·Memᴰ t ts → NetFine t
+-- a node that can be written: its name fits the tables, it has at most 16 ports
+abbrev pub Writable : ℕ → ℕ → Name → ℕ → Type 0
+Writable paths names m s = NameFits paths names m × (s ≤ 16)
 
-nets-loaded : (path : ℕ) (name : Name) → name .path ≡ path → (ts : List FlatNet) (e : Engine) → AllFine ts → Loaded path (coreOf e)
-    → Then (λ e′. Loaded path (coreOf e′) × (coreOf e′ .rules ≡ coreOf e .rules)) (each (addFlatNet name) ts e)
-nets-loaded path name q [] e h l = (l, refl)
-nets-loaded path name q (t ∷ ts) e h l =
-    go (addFlatNet name t e) (net-loaded path name q t e (h t (List·Memᴰ·head refl)) l) (λ e′. nets-loaded path name q ts e′ (λ u m. h u (List·Memᴰ·tail m)))
-  where
-    go : (r : Result Engine) → Then (λ e′. Loaded path (coreOf e′) × (coreOf e′ .rules ≡ coreOf e .rules)) r
-        → ((e′ : Engine) → Loaded path (coreOf e′) → Then (λ e″. Loaded path (coreOf e″) × (coreOf e″ .rules ≡ coreOf e′ .rules)) (each (addFlatNet name) ts e′))
-        → Then (λ e″. Loaded path (coreOf e″) × (coreOf e″ .rules ≡ coreOf e .rules)) (r >>= λ e′. each (addFlatNet name) ts e′)
-    go (refuse r) x k = tt
-    go (ok e′) x k = via (each (addFlatNet name) ts e′) (k e′ (x .0))
-      where
-        via : (r : Result Engine) → Then (λ e″. Loaded path (coreOf e″) × (coreOf e″ .rules ≡ coreOf e′ .rules)) r → Then (λ e″. Loaded path (coreOf e″) × (coreOf e″ .rules ≡ coreOf e .rules)) r
-        via (refuse r) y = tt
-        via (ok e″) y = (y .0, y .1 ∙ x .1)
+-- each net's free node has 2 more ports than the file gives the net free wires
+abbrev pub FreePorts : List FlatNet → Core → Type 0
+FreePorts ts c = map (λ (h : Home). arity (c .graph) (h .free)) (c .homes) ≡ map (λ (t : FlatNet). 2 + length (t .free)) ts
+
+-- what the load of the nets ts leaves; Q holds of each node's name and number of ports
+pub record Begun (path : ℕ) (Q : Name → ℕ → Type 0) (rs : List Rule) (ts : List FlatNet) (c : Core) : Type 0 where
+  pub loaded : Loaded path c
+  pub rules : c .rules ≡ rs
+  pub ports : FreePorts ts c
+  pub nodes : AllNodes Q (c .graph)
+
+-- what the load asks of a net
+record NetGood (Q : Name → ℕ → Type 0) (name : Name) (t : FlatNet) : Type 0 where
+  fine : NetFine t
+  free : Q name (2 + length (t .free))
+  nodes : Each (λ (x : FlatNode). Q (x .name) (suc (length (x .aux)))) (t .nodes)
+
+pub same-map : {A : Type 0} (f g : A → ℕ) (xs : List A) → ((k : ℕ) (x : A) → nth xs k ≡ some x → f x ≡ g x) → map f xs ≡ map g xs
+same-map f g [] h = refl
+same-map f g (x ∷ xs) h = λ i. h 0 x refl i ∷ same-map f g xs (λ k y e. h (suc k) y e) i
+
+module _ (path : ℕ) (Q : Name → ℕ → Type 0) (rules : List Rule) (name : Name) (named : name .path ≡ path) where
+  met-brings : (met xs : List End) → Brings Q (joinMet met xs)
+  unfolding joinMet
+  met-brings met [] = tt
+  met-brings met (x ∷ xs) = go (find (λ y. eqb (x .0) (y .0)) met) (met-brings (x ∷ met) xs)
+    where
+      go : (o : Option End) → Brings Q (joinMet (x ∷ met) xs) → Brings Q (elim o as (λ _. List Edit) [ none ↦ joinMet (x ∷ met) xs | some y ↦ Join (x .1) (y .1) ∷ joinMet (x ∷ met) xs ])
+      go none b = b
+      go (some y) b = b
+
+  nodes-brings : (N : ℕ → ℕ) (t : FlatNet) (k : ℕ) (xs : List FlatNode) (met : List End) (j : ℕ) → Each (λ (x : FlatNode). Q (x .name) (suc (length (x .aux)))) xs → Brings Q (loadNodes N t k met j xs)
+  unfolding loadNodes new
+  nodes-brings N t k [] met j h = tt
+  nodes-brings N t k (x ∷ xs) met j h = (
+    subst (Q (x .name)) (sym (length-replicate (length ends) none ∙ ends-length t (N j) (x .pri ∷ x .aux) 0)) (h .0),
+    brings-append Q (joinMet met ends) (loadNodes N t k (ends ++ met) (1 + j) xs) (met-brings met ends) (nodes-brings N t k xs (ends ++ met) (1 + j) (h .1)),
+  )
+    where
+      ends : List End
+      ends = endsAt t (N j) 0 (x .pri ∷ x .aux)
+
+  net-brings : (N : ℕ → ℕ) (k : ℕ) (t : FlatNet) → NetGood Q name t → Brings Q (loadNet N name k t)
+  unfolding loadNet new
+  net-brings N k t g = (
+    subst (Q name) (sym (length-replicate (2 + length (t .free)) none)) (g .free),
+    brings-append Q (joinMet [] (endsAt t (N 0) 2 (t .free))) (loadNodes N t k (endsAt t (N 0) 2 (t .free)) 1 (t .nodes))
+        (met-brings [] (endsAt t (N 0) 2 (t .free))) (nodes-brings N t k (t .nodes) (endsAt t (N 0) 2 (t .free)) 1 (g .nodes)),
+  )
+
+  -- one net more
+  net-begun : (us : List FlatNet) (t : FlatNet) (c d : Core) → NetGood Q name t → Begun path Q rules us c → Loaded path d → Added name t c d → Begun path Q rules (us ++ t ∷ []) d
+  net-begun us t c d g b l a = record {
+    loaded = l;
+    rules = a .rules ∙ b .rules;
+    ports = ap (map of) (a .homes) ∙ map-snoc of (c .homes) (record { name = t .name; free = a .numbers 0 })
+        ∙ (λ i. (same-map of (λ (h : Home). arity (c .graph) (h .free)) (c .homes) kept ∙ b .ports) i ++ a .ports i ∷ [])
+        ∙ sym (map-snoc (λ (u : FlatNet). 2 + length (u .free)) us t);
+    nodes = subst (AllNodes Q) (sym (a .graph)) (edits-nodes Q (loadNet (a .numbers) name (length (c .homes)) t) (c .graph) (b .nodes) (net-brings (a .numbers) (length (c .homes)) t g));
+  }
+    where
+      of : Home → ℕ
+      of h = arity (d .graph) (h .free)
+
+      kept : (k : ℕ) (h : Home) → nth (c .homes) k ≡ some h → arity (d .graph) (h .free) ≡ arity (c .graph) (h .free)
+      kept k h e = arity-same (c .graph) (d .graph) (h .free) (a .old (h .free) (holds-filled (c .graph) k (h .free) (b .loaded .rest .free k h e .held)))
+
+  nets-begun : (ts us : List FlatNet) (e : Engine) → ((t : FlatNet) → List·Memᴰ t ts → NetGood Q name t) → Begun path Q rules us (coreOf e)
+      → Then (λ e′. Begun path Q rules (us ++ ts) (coreOf e′)) (each (addFlatNet name) ts e)
+  nets-begun [] us e h b = subst (λ (vs : List FlatNet). Begun path Q rules vs (coreOf e)) (sym (append-nil us)) b
+  nets-begun (t ∷ ts) us e h b =
+      go (addFlatNet name t e) (net-loaded path name named t e (h t (List·Memᴰ·head refl) .fine) (b .loaded)) (λ e′. nets-begun ts (us ++ t ∷ []) e′ (λ u m. h u (List·Memᴰ·tail m)))
+    where
+      go : (r : Result Engine) → Then (λ e′. Loaded path (coreOf e′) × Added name t (coreOf e) (coreOf e′)) r
+          → ((e′ : Engine) → Begun path Q rules (us ++ t ∷ []) (coreOf e′) → Then (λ e″. Begun path Q rules ((us ++ t ∷ []) ++ ts) (coreOf e″)) (each (addFlatNet name) ts e′))
+          → Then (λ e″. Begun path Q rules (us ++ t ∷ ts) (coreOf e″)) (r >>= λ e′. each (addFlatNet name) ts e′)
+      go (refuse r) x k = tt
+      go (ok e′) x k =
+          subst (λ (vs : List FlatNet). Then (λ e″. Begun path Q rules vs (coreOf e″)) (each (addFlatNet name) ts e′)) (append-assoc us (t ∷ []) ts)
+          (k e′ (net-begun us t (coreOf e) (coreOf e′) (h t (List·Memᴰ·head refl)) b (x .0) (x .1)))
 
 keep-in : (g : FlatNet → Bool) (ts : List FlatNet) (t : FlatNet) → List·Memᴰ t (keep g ts) → List·Memᴰ t ts
 keep-in g [] t m = m
@@ -164,7 +234,7 @@ any-none g (y ∷ ys) x e m = go (g y) refl e (List·Memᴰ·cases-cons m) (any-
     go false s q (inl k) r = ap g k ∙ s
     go false s q (inr k) r = r q k
 
-each-mem : {A : Type 0} (P : A → Type 0) (xs : List A) (x : A) → Each P xs → List·Memᴰ x xs → P x
+pub each-mem : {A : Type 0} (P : A → Type 0) (xs : List A) (x : A) → Each P xs → List·Memᴰ x xs → P x
 each-mem P [] x e m = absurd (List·Memᴰ·not-nil m)
 each-mem P (y ∷ ys) x e m = go (List·Memᴰ·cases-cons m) (each-mem P ys x (e .1))
   where
@@ -200,11 +270,11 @@ unnamed paths rules fit free r m p =
 
 -- ---- a file that was read
 
-T-true : (t : Bool) → T t → t ≡ true
+pub T-true : (t : Bool) → T t → t ≡ true
 T-true true x = refl
 T-true false x = absurd x
 
-not-false : (t : Bool) → T (not t) → t ≡ false
+pub not-false : (t : Bool) → T (not t) → t ≡ false
 not-false true x = absurd x
 not-false false x = refl
 
@@ -216,35 +286,104 @@ net-fine f o w t m = record {
   wired = all-mem flatWired (f .nets) t w m;
 }
 
-empty-rules : (p : Pools) (f : File FlatNet) → coreOf (empty p f) .rules ≡ f .rules
-unfolding empty coreOf
-empty-rules p f = refl
-
 names-none : (f : File FlatNet) → freeNamed flat f ≡ false → any (namesFree (f .paths)) (f .rules) ≡ false
 unfolding freeNamed
 names-none f e = e
 
--- `wired`, `free-kept` at the start: an accepted file, loaded, is ready
-pub load-ready : (bs : List ℕ) → Bytes bs → (f : File FlatNet) → read flat bs ≡ ok f → (p : Pools) (e : Engine) → load p f ≡ ok e → Ready (freeName (f .paths) .path) (coreOf e)
-unfolding load included
-load-ready bs b f h p e q = go (load p f) (nets-loaded path (freeName (f .paths)) refl (included f) (empty p f) fine (empty-loaded path p f)) q
+-- ---- names and numbers of ports
+
+each-map : {A : Type 0} (P R : A → Type 0) → ((x : A) → P x → R x) → (xs : List A) → Each P xs → Each R xs
+each-map P R h [] e = tt
+each-map P R h (x ∷ xs) e = (h x (e .0), each-map P R h xs (e .1))
+
+-- more paths
+pub name-wider : (paths more names : ℕ) → paths ≤ more → (m : Name) → NameFits paths names m → NameFits more names m
+name-wider paths more names l m h = record { path = (let z = h .path in omega arith); payload = h .payload; few = h .few; children = h .children }
+
+place-below : (g : List ℕ → Bool) (xs : List (List ℕ)) → any g xs ≡ true → place g xs < length xs
+place-below g [] e = absurd (true≢false (sym e))
+place-below g (x ∷ xs) e = go (g x) e (place-below g xs)
   where
-    path : ℕ
-    path = freeName (f .paths) .path
+    go : (t : Bool) → (t || any g xs) ≡ true → (any g xs ≡ true → place g xs < length xs) → elim t as (λ _. ℕ) [ true ↦ 0 | false ↦ suc (place g xs) ] < suc (length xs)
+    go true q r = omega arith
+    go false q r = let z = r q in omega arith
 
-    spells : Spells flat FlatNetFits bs f
-    spells = flat-write-read bs b f h
+-- the table with the free path holds it, and no path less
+pub with-free : (ps : List (List ℕ)) → (any (eqs freePath) (withFreePath ps) ≡ true) × (length ps ≤ length (withFreePath ps))
+unfolding withFreePath
+with-free ps = go (any (eqs freePath) ps) refl
+  where
+    go : (t : Bool) → any (eqs freePath) ps ≡ t
+        → (any (eqs freePath) (elim t as (λ _. List (List ℕ)) [ true ↦ ps | false ↦ ps ++ freePath ∷ [] ]) ≡ true) × (length ps ≤ length {A = List ℕ} (elim t as (λ _. List (List ℕ)) [ true ↦ ps | false ↦ ps ++ freePath ∷ [] ]))
+    go true e = (e, omega arith)
+    go false e = (any-append (eqs freePath) ps (freePath ∷ []) ∙ ap (λ (t : Bool). t || (eqs freePath freePath || false)) e, let z = length-append ps (freePath ∷ []) in omega arith)
 
-    fine : AllFine (keep (λ t. t .included) (f .nets))
-    fine t m = net-fine f (T-true (ordered flat f) (spells .ordered)) (T-true (wired flat f) (spells .wired)) t (keep-in (λ t. t .included) (f .nets) t m)
+free-fits : (ps : List (List ℕ)) (names : ℕ) → NameFits (length (withFreePath ps)) names (freeName ps)
+unfolding freeName
+free-fits ps names = record { path = place-below (eqs freePath) (withFreePath ps) (with-free ps .0); payload = omega arith; few = omega arith; children = tt }
 
-    go : (r : Result Engine) → Then (λ e′. Loaded (freeName (f .paths) .path) (coreOf e′) × (coreOf e′ .rules ≡ coreOf (empty p f) .rules)) r → r ≡ ok e → Ready (freeName (f .paths) .path) (coreOf e)
+net-good : (f : File FlatNet) → ordered flat f ≡ true → wired flat f ≡ true → (t : FlatNet) → List·Memᴰ t (f .nets) → FlatNetFits (length (f .paths)) (length (f .names)) t
+    → NetGood (Writable (length (withFreePath (f .paths))) (length (f .names))) (freeName (f .paths)) t
+net-good f o w t m fits = record {
+  fine = net-fine f o w t m;
+  free = (free-fits (f .paths) (length (f .names)), let z = fits .fewFree in omega arith);
+  nodes = each-map (NodeFits (length (f .paths)) (length (f .names)) (t .wires)) (λ (x : FlatNode). Writable (length (withFreePath (f .paths))) (length (f .names)) (x .name) (suc (length (x .aux))))
+      (λ x h. (name-wider (length (f .paths)) (length (withFreePath (f .paths))) (length (f .names)) (with-free (f .paths) .1) (x .name) (h .name), let z = h .few in omega arith)) (t .nodes) (fits .nodes);
+}
+
+nets-first : (name : Name) (ts : List FlatNet) (e : Engine) → Firsts (coreOf e) → Then (λ e′. Firsts (coreOf e′)) (each (addFlatNet name) ts e)
+nets-first name [] e f = f
+nets-first name (t ∷ ts) e f = go (addFlatNet name t e) (net-first name t e f) (λ e′. nets-first name ts e′)
+  where
+    go : (r : Result Engine) → Then (λ e′. Firsts (coreOf e′)) r → ((e′ : Engine) → Firsts (coreOf e′) → Then (λ e″. Firsts (coreOf e″)) (each (addFlatNet name) ts e′))
+        → Then (λ e″. Firsts (coreOf e″)) (r >>= λ e′. each (addFlatNet name) ts e′)
+    go (refuse r) x k = tt
+    go (ok e′) x k = k e′ x
+
+-- after the load of any file each net's list begins with its free node
+pub load-first : (p : Pools) (f : File FlatNet) (e : Engine) → load p f ≡ ok e → Firsts (coreOf e)
+unfolding load empty coreOf
+load-first p f e q = go (load p f) (nets-first (freeName (f .paths)) (included f) (empty p f) (λ k h x. absurd (none-there k h x))) q
+  where
+    none-there : (k : ℕ) (h : Home) → nth [] k ≡ some h → ⊥
+    none-there k h x = let z : _≡_ {A = ℕ} 0 1 = cc in omega arith
+
+    go : (r : Result Engine) → Then (λ e′. Firsts (coreOf e′)) r → r ≡ ok e → Firsts (coreOf e)
     go (refuse r) x y = let z : _≡_ {A = ℕ} 0 1 = cc in absurd (omega arith)
-    go (ok e′) x y = subst (λ (d : Engine). Ready (freeName (f .paths) .path) (coreOf d)) (ok-is y) (record {
-      unnamed = subst (Unnamed (freeName (f .paths) .path)) (sym (x .1 ∙ empty-rules p f)) (unnamed (f .paths) (f .rules) (spells .fits .tables .rules) (names-none f (not-false (freeNamed flat f) (spells .unnamed))));
-      rest = x .0 .rest;
-      tracked = x .0 .tracked;
-    })
-      where
-        ok-is : _≡_ {A = Result Engine} (ok e′) (ok e) → e′ ≡ e
-        ok-is s = ap (λ (r : Result Engine). elim r as (λ _. Engine) [ ok d ↦ d | refuse n ↦ e′ ]) s
+    go (ok e′) x y = subst (λ (d : Engine). Firsts (coreOf d)) (ap (λ (r : Result Engine). elim r as (λ _. Engine) [ ok d ↦ d | refuse n ↦ e′ ]) y) x
+
+empty-begun : (path : ℕ) (Q : Name → ℕ → Type 0) (p : Pools) (f : File FlatNet) → Begun path Q (f .rules) [] (coreOf (empty p f))
+unfolding empty coreOf
+empty-begun path Q p f = record { loaded = empty-loaded path p f; rules = refl; ports = refl; nodes = λ n e. absurd (true≢false (sym e ∙ none-filled (p .nodes) n)) }
+
+module _ (bs : List ℕ) (b : Bytes bs) (f : File FlatNet) (h : read flat bs ≡ ok f) (p : Pools) (e : Engine) (q : load p f ≡ ok e) where
+  spells : Spells flat FlatNetFits bs f
+  spells = flat-write-read bs b f h
+
+  -- what the load of an accepted file leaves: each net has as many free ports as the file gives it free wires, each node can be written
+  pub load-begun : Begun (freeName (f .paths) .path) (Writable (length (withFreePath (f .paths))) (length (f .names))) (f .rules) (included f) (coreOf e)
+  unfolding load included
+  load-begun = go (load p f) (nets-begun path Q (f .rules) (freeName (f .paths)) refl (included f) [] (empty p f) good (empty-begun path Q p f)) q
+    where
+      path : ℕ
+      path = freeName (f .paths) .path
+
+      Q : Name → ℕ → Type 0
+      Q = Writable (length (withFreePath (f .paths))) (length (f .names))
+
+      good : (t : FlatNet) → List·Memᴰ t (keep (λ t. t .included) (f .nets)) → NetGood Q (freeName (f .paths)) t
+      good t m =
+          let i = keep-in (λ t. t .included) (f .nets) t m in
+          net-good f (T-true (ordered flat f) (spells .ordered)) (T-true (wired flat f) (spells .wired)) t i (each-mem (FlatNetFits (length (f .paths)) (length (f .names))) (f .nets) t (spells .fits .tables .nets) i)
+
+      go : (r : Result Engine) → Then (λ e′. Begun path Q (f .rules) (included f) (coreOf e′)) r → r ≡ ok e → Begun path Q (f .rules) (included f) (coreOf e)
+      go (refuse r) x y = let z : _≡_ {A = ℕ} 0 1 = cc in absurd (omega arith)
+      go (ok e′) x y = subst (λ (d : Engine). Begun path Q (f .rules) (included f) (coreOf d)) (ap (λ (r : Result Engine). elim r as (λ _. Engine) [ ok d ↦ d | refuse n ↦ e′ ]) y) x
+
+  -- `wired` at the start: it is ready
+  pub load-ready : Ready (freeName (f .paths) .path) (coreOf e)
+  load-ready = record {
+    unnamed = subst (Unnamed (freeName (f .paths) .path)) (sym (load-begun .rules)) (unnamed (f .paths) (f .rules) (spells .fits .tables .rules) (names-none f (not-false (freeNamed flat f) (spells .unnamed))));
+    rest = load-begun .loaded .rest;
+    tracked = load-begun .loaded .tracked;
+  }

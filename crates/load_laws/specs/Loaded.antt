@@ -7,28 +7,31 @@ use native.Mathlib.Omega.{arith}
 use mathlib.Core.Bool.{Bool, true, false, true≢false, false≢true}
 use mathlib.Core.Option.{Option, none, some, Option·some-injective}
 use mathlib.Core.List.{List, [], _∷_, _++_, map, List·Memᴰ, List·Memᴰ·head, List·Memᴰ·tail, List·Memᴰ·not-nil, List·Memᴰ·cases-cons}
-use lib.ListN.{length, getD, replicate, length-append, length-map, length-replicate, getD-replicate, List·getD-append, List·getD-eq-default}
+use lib.ListN.{length, getD, set, replicate, length-append, length-map, length-replicate, getD-replicate, List·getD-append, List·getD-eq-default}
+use lib.Seq.{getD-set-same, getD-set-other}
 use lib.Dec.{eqb}
 use Rattle.net_file.specs.Lists.{Result, ok, refuse, all}
 use Rattle.net_file.specs.Values.{Name, FlatNet, Rule}
 use Rattle.net_file.specs.Checks.{pairsOrdered, flatWired}
 use Rattle.definitions.specs.Lists.{_>>=_, orElse, isSome, foldl, nth, each, from, upTo}
 use Rattle.definitions.specs.Nets.{Port, Node, Graph, Home, port, nowhere, at, filled, holds, nameOf, arity, across}
-use Rattle.definitions.specs.Scripts.{Edit, apply, vacate, applyScript}
+use Rattle.definitions.specs.Scripts.{Edit, Insert, Join, apply, vacate, applyScript}
+use Rattle.definitions.specs.Rules.{new}
 use Rattle.definitions.specs.Step.{Fresh}
 use Rattle.definitions.specs.State.{Net, Pools, Engine, graphOf, newNet, withNets}
 use Rattle.definitions.specs.Books.{fresh, edit}
-use Rattle.definitions.specs.Load.{loadNet, addFlatNet}
+use Rattle.definitions.specs.Load.{endsAt, joinMet, loadNodes, loadNet, addFlatNet}
 use Rattle.join_laws.specs.Ports.{frame, name-same, holds-same, holds-frame, inNet, Frame}
 use Rattle.script_laws.specs.Tidy.{WellWired, tidy-wired, frame-kept, wire-kept, ported-kept}
 use Rattle.graph_laws.specs.Rest.{Rest, FreeNode, holds-filled}
 use Rattle.step_laws.specs.Core.{Core, coreOf, homeOf, listOf}
-use Rattle.step_laws.specs.Track.{listAt, Tracked}
-use Rattle.step_laws.specs.Edits.{Then}
+use Rattle.step_laws.specs.Track.{listAt, Tracked, placedIn}
+use Rattle.step_laws.specs.Edits.{Then, Needs, edit-core}
 use Rattle.step_laws.specs.Acting.{Made, edits-made}
 use Rattle.step_laws.specs.Numbers.{tracked-fresh}
+use Rattle.step_laws.specs.First.{Firsts, listed-below, edits-first}
 use Rattle.load_laws.specs.Loads.{loaded, F, loaded-tidy}
-use Rattle.load_laws.specs.Start.{free-held, free-named, free-wired, load-order}
+use Rattle.load_laws.specs.Start.{free-ports, free-held, free-named, free-wired, load-order}
 
 -- every net is well wired with its free node, every node is tracked
 pub record Loaded (path : ℕ) (c : Core) : Type 0 where
@@ -40,9 +43,18 @@ pub record NetFine (t : FlatNet) : Type 0 where
   pub ordered : pairsOrdered (t .pairs) ≡ true
   pub wired : flatWired t ≡ true
 
+-- net t more: its nodes come by the edits of its load, its home is the last, and nodes that were there stay as they were
+pub record Added (name : Name) (t : FlatNet) (c d : Core) : Type 0 where
+  pub numbers : ℕ → ℕ
+  pub graph : d .graph ≡ foldl apply (c .graph) (loadNet numbers name (length (c .homes)) t)
+  pub homes : d .homes ≡ c .homes ++ record { name = t .name; free = numbers 0 } ∷ []
+  pub rules : d .rules ≡ c .rules
+  pub old : (n : ℕ) → filled (c .graph) n ≡ true → frame (d .graph) n ≡ frame (c .graph) n
+  pub ports : arity (d .graph) (numbers 0) ≡ 2 + length (t .free)
+
 -- ---- one net more
 
-map-snoc : {A C : Type 0} (f : A → C) (xs : List A) (x : A) → map f (xs ++ x ∷ []) ≡ map f xs ++ f x ∷ []
+pub map-snoc : {A C : Type 0} (f : A → C) (xs : List A) (x : A) → map f (xs ++ x ∷ []) ≡ map f xs ++ f x ∷ []
 map-snoc f [] x = refl
 map-snoc f (y ∷ ys) x = ap (λ l. f y ∷ l) (map-snoc f ys x)
 
@@ -149,7 +161,7 @@ module _ (path : ℕ) (name : Name) (named : name .path ≡ path) where
             }))
 
   -- one net loaded
-  pub net-loaded : (t : FlatNet) (e : Engine) → NetFine t → Loaded path (coreOf e) → Then (λ e′. Loaded path (coreOf e′) × (coreOf e′ .rules ≡ coreOf e .rules)) (addFlatNet name t e)
+  pub net-loaded : (t : FlatNet) (e : Engine) → NetFine t → Loaded path (coreOf e) → Then (λ e′. Loaded path (coreOf e′) × Added name t (coreOf e) (coreOf e′)) (addFlatNet name t e)
   unfolding addFlatNet fresh coreOf h home withNets
   net-loaded t e fine l =
       go (each edit (loadNet (fresh e) name (length (e .nets)) t) e₁)
@@ -169,9 +181,19 @@ module _ (path : ℕ) (name : Name) (named : name .path ≡ path) where
           omega arith
 
       go : (q : Result Engine) → Then (λ e′. Made (coreOf e₁) (loadNet (fresh e) name (length (e .nets)) t) (coreOf e′)) q
-          → Then (λ e′. Loaded path (coreOf e′) × (coreOf e′ .rules ≡ coreOf e .rules)) q
+          → Then (λ e′. Loaded path (coreOf e′) × Added name t (coreOf e) (coreOf e′)) q
       go (refuse q) m = tt
-      go (ok e′) m = (record { rest = rest; tracked = m .tracked }, m .same .rules ∙ ap (λ (c : Core). c .rules) (core-wider (record { name = t .name; free = fresh e 0 }) e))
+      go (ok e′) m = (
+        record { rest = rest; tracked = m .tracked },
+        record {
+          numbers = fresh e;
+          graph = graph′;
+          homes = homes′;
+          rules = m .same .rules ∙ ap (λ (c : Core). c .rules) (core-wider (record { name = t .name; free = fresh e 0 }) e);
+          old = λ n f. ap (λ (g : Graph). frame g n) graph′ ∙ old-frame (coreOf e .graph) (coreOf e .homes) (l .rest) (fresh e) (tracked-fresh e (l .tracked)) t fine n f;
+          ports = ap (λ (g : Graph). arity g (fresh e 0)) graph′ ∙ free-ports (coreOf e .graph) (l .rest .well) (fresh e) (tracked-fresh e (l .tracked)) (length (coreOf e .homes)) name t (fine .ordered) (fine .wired);
+        },
+      )
         where
           count : length (e .nets) ≡ length (coreOf e .homes)
           count = sym (length-map (e .nets) homeOf)
@@ -188,3 +210,59 @@ module _ (path : ℕ) (name : Name) (named : name .path ≡ path) where
           rest : Rest path (coreOf e′ .homes) (coreOf e′ .graph)
           rest = subst (λ (hs : List Home). Rest path hs (coreOf e′ .graph)) (sym homes′)
               (subst (Rest path (coreOf e .homes ++ record { name = t .name; free = fresh e 0 } ∷ [])) (sym graph′) made)
+
+-- ---- first entries
+
+last-list : (ls : List (List ℕ)) → getD (ls ++ [] ∷ []) (length ls) [] ≡ []
+last-list [] = refl
+last-list (l ∷ ls) = last-list ls
+
+-- the first node of a new net is its free node
+wider-first : (c : Core) (n : ℕ) (name : Name) (t : FlatNet) → length (c .lists) ≡ length (c .homes) → Firsts c
+    → Firsts (placedIn n (new (length (c .lists)) name (2 + length (t .free))) (wider (record { name = t .name; free = n }) c))
+unfolding new
+wider-first c n name t m f k h e = go (nth-snoc (c .homes) (record { name = t .name; free = n }) h k e)
+  where
+    ls : List (List ℕ)
+    ls = c .lists ++ [] ∷ []
+
+    go : (nth (c .homes) k ≡ some h) ⊎ ((k ≡ length (c .homes)) × (h ≡ record { name = t .name; free = n })) → nth (getD (set ls (length (c .lists)) (getD ls (length (c .lists)) [] ++ n ∷ [])) k []) 0 ≡ some (h .free)
+    go (inl q) =
+        let l = listed-below (c .lists) k (h .free) (f k h q) in
+        ap (λ (x : List ℕ). nth x 0) (getD-set-other ls (length (c .lists)) k (getD ls (length (c .lists)) [] ++ n ∷ []) [] (λ s. let z = s in omega arith) ∙ List·getD-append (c .lists) ([] ∷ []) [] k l) ∙ f k h q
+    go (inr q) =
+        let l : length (c .lists) < length ls = (let z = length-append (c .lists) ([] ∷ []) in omega arith) in
+        let s : k ≡ length (c .lists) = q .0 ∙ sym m in
+        ap (λ (i : ℕ). nth (getD (set ls (length (c .lists)) (getD ls (length (c .lists)) [] ++ n ∷ [])) i []) 0) s
+        ∙ ap (λ (x : List ℕ). nth x 0) (getD-set-same ls (length (c .lists)) (getD ls (length (c .lists)) [] ++ n ∷ []) [] l)
+        ∙ ap (λ (x : List ℕ). nth (x ++ n ∷ []) 0) (last-list (c .lists)) ∙ ap (λ (x : Home). some (x .free)) (sym (q .1))
+
+pub net-first : (name : Name) (t : FlatNet) (e : Engine) → Firsts (coreOf e) → Then (λ e′. Firsts (coreOf e′)) (addFlatNet name t e)
+unfolding addFlatNet loadNet coreOf
+net-first name t e f =
+    go (edit (Insert (fresh e 0) x) e₁) (edit-core (Insert (fresh e 0) x) e₁)
+  where
+    home : Home
+    home = record { name = t .name; free = fresh e 0 }
+
+    e₁ : Engine
+    e₁ = withNets (e .nets ++ newNet home ∷ []) e
+
+    x : Node
+    x = new (length (e .nets)) name (2 + length (t .free))
+
+    rest : List Edit
+    rest = Join (port (fresh e 0) 0) (port (fresh e 0) 1) ∷ joinMet [] (endsAt t (fresh e 0) 2 (t .free)) ++ loadNodes (fresh e) t (length (e .nets)) (endsAt t (fresh e 0) 2 (t .free)) 1 (t .nodes)
+
+    count : length (coreOf e .lists) ≡ length (e .nets)
+    count = length-map (e .nets) listOf
+
+    began : Firsts (placedIn (fresh e 0) x (coreOf e₁))
+    began =
+        subst (λ (c : Core). Firsts (placedIn (fresh e 0) x c)) (sym (core-wider home e))
+        (subst (λ (n : ℕ). Firsts (placedIn (fresh e 0) (new n name (2 + length (t .free))) (wider home (coreOf e)))) count
+        (wider-first (coreOf e) (fresh e 0) name t (count ∙ sym (length-map (e .nets) homeOf)) f))
+
+    go : (r : Result Engine) → Then (λ e′. (coreOf e′ ≡ placedIn (fresh e 0) x (coreOf e₁)) × Needs (Insert (fresh e 0) x) (coreOf e₁)) r → Then (λ e′. Firsts (coreOf e′)) (r >>= λ e′. each edit rest e′)
+    go (refuse r) y = tt
+    go (ok e′) y = edits-first rest e′ (subst Firsts (sym (y .0)) began)

@@ -17,7 +17,7 @@ use Rattle.definitions.specs.Scripts.{Edit, Insert, Copy, Join, Cut, fill, join
 use Rattle.definitions.specs.Rules.{new}
 use Rattle.definitions.specs.Step.{Fresh}
 use Rattle.definitions.specs.Load.{End, endsAt, joinMet, loadNodes, loadNet}
-use Rattle.join_laws.specs.Ports.{Frame, noFrame, inNet, frame, arity-same, name-frame, holds-frame, filled-frame, Real, across-wire-same, across-wire-other, real-wire}
+use Rattle.join_laws.specs.Ports.{Frame, noFrame, inNet, frame, arity-frame, arity-same, name-frame, holds-frame, filled-frame, Real, across-wire-same, across-wire-other, real-wire}
 use Rattle.join_laws.specs.Link.{Wired, frame-cut}
 use Rattle.join_laws.specs.Join.{join-cases, frame-join}
 use Rattle.script_laws.specs.Slots.{across-fill, across-vacant}
@@ -82,6 +82,9 @@ module _ (g : Graph) (w : WellWired g) (N : ℕ → ℕ) (fr : Fresh g N) (k : �
       go : (frame (foldl apply two rest) (N 0) ≡ frame two (N 0)) ⊎ Born All two (foldl apply two rest) (N 0) → frame (foldl apply two rest) (N 0) ≡ some (record { net = k; name = name; size = 2 + length (t .free) })
       go (inl e) = e ∙ new₂ g w N fr k name t ordered wired
       go (inr b) = absurd (true≢false (sym (filled-frame two (N 0) ∙ ap isSome (new₂ g w N fr k name t ordered wired)) ∙ b .0))
+
+  pub free-ports : arity h (N 0) ≡ 2 + length (t .free)
+  free-ports = arity-frame h (N 0) ∙ ap (λ (o : Option Frame). orElse o noFrame .size) frame-free
 
   pub free-held : holds h k (N 0) ≡ true
   free-held = holds-frame h (N 0) k ∙ ap (inNet k) frame-free ∙ eq-eqb k k refl

@@ -1,7 +1,7 @@
 -- What a function of the crate answers on each way out, and one turn of each loop, in the words of its tests and calls.
 use Prim.Native.Nat.{ℕ, zero, suc, _+_, _*_, _-_, _%_, _<_, _≤_}
 use mathlib.Core.Bool.{Bool, true, false}
-use mathlib.Core.Path.{_≡_, refl}
+use mathlib.Core.Path.{_≡_, _∙_, refl}
 use mathlib.Core.List.{List}
 use native.Mathlib.Nat.{not-suc-le-zero}
 use native.Mathlib.Numerals.{sub-one}
@@ -9,7 +9,7 @@ use lib.Dec.{eqb}
 use Rattle.words.specs.Choose.{eq-yes, eq-no, pick-true, pick-false}
 use Rattle.fields.specs.Fields.{byte, be16}
 use Rattle.stored.specs.Stored.{nodeCountAt, flatNetEnd}
-use Rattle.ends.specs.Ends.{within}
+use Rattle.ends.specs.Ends.{within, next-net, next-is}
 use Rattle.free_path.specs.FreePath.{freeNumber}
 use Rattle.layout.specs.Layout.{next, nets, node-word}
 use Rattle.tried.specs.Tries.{arity, name}
@@ -46,15 +46,16 @@ unfolding with-net
 net-included file at end f b size r eb h ef er = pick-true _ _ _ (rw (← eb) h) (rw (er, ef))
 
 pub net-other : (file : List ℕ) (at end k d : ℕ) (b : Bool) (size r : Size) → b ≡ eqb (byte file (at + 2)) 1 → b ≡ false → k ≡ be16 file (nodeCountAt file at)
-    → d ≡ end - at → r ≡ plus size k d → r ≡ with-net file at end size
+    → end ≡ within file (flatNetEnd file at) → d ≡ end - at → r ≡ plus size k d → r ≡ with-net file at (within file (flatNetEnd file at)) size
 unfolding with-net
-net-other file at end k d b size r eb h ek ed er = pick-false _ _ _ (rw (← eb) h) (rw (er, ed, ek))
+net-other file at end k d b size r eb h ek ee ed er = pick-false _ _ _ (rw (← eb) h) (rw (er, ed, ek, ee))
 
-pub nets-more : (file : List ℕ) (at end k : ℕ) (size s x : Size) → nets-size file at k size ≡ x → 0 < k → end ≡ within file (flatNetEnd file at)
-    → s ≡ with-net file at end size → nets-size file end (k - 1) s ≡ x
+pub nets-more : (file : List ℕ) (at a k : ℕ) (size s x : Size) → nets-size file at k size ≡ x → 0 < k
+    → s ≡ with-net file at (within file (flatNetEnd file at)) size → a ≡ next-net file at k → nets-size file a (k - 1) s ≡ x
 unfolding nets-size
-nets-more file at end zero size s x e h ee es = absurd (not-suc-le-zero h)
-nets-more file at end (suc k) size s x e h ee es = rw (sub-one, es, ee) e
+nets-more file at a zero size s x e h es ea = absurd (not-suc-le-zero h)
+nets-more file at a (suc zero) size s x e h es ea = es ∙ e
+nets-more file at a (suc (suc k)) size s x e h es ea = rw (sub-one, es, next-is file at a k ea) e
 
 pub nets-done : (file : List ℕ) (at k : ℕ) (size x : Size) → nets-size file at k size ≡ x → k ≤ 0 → size ≡ x
 unfolding nets-size

@@ -2,6 +2,8 @@
 ghost use Prim.Native.Nat.{_+_, _-_};
 ghost use mathlib.Core.Bool.{Bool};
 ghost use mathlib.Core.Path.{_≡_};
+ghost use Rattle.stored.specs.Stored.{flatNetEnd};
+ghost use Rattle.ends.specs.Ends.{within};
 ghost use Rattle.measure.specs.Measure.{plus, node-size, with-slot, slots-size, with-net, nets-size, path-joins, with-path, measure};
 use kinds::NodeId;
 
@@ -67,9 +69,9 @@ pub fn span(from: usize, to: usize) -> usize
     0
 }
 
-// One net more, from a place up to an end: an included one without its nodes, another as it stands.
-fn with_net(file: &[u8], at: usize, end: usize, size: Size) -> Size
-    ensures { λ r. ⌜ r ≡ with-net (now (file .entry)) at end size ⌝ }
+// One net more, at a place: an included one without its nodes, another as it stands.
+fn with_net(file: &[u8], at: usize, size: Size) -> Size
+    ensures { λ r. ⌜ r ≡ with-net (now (file .entry)) at (within (now (file .entry)) (flatNetEnd (now (file .entry)) at)) size ⌝ }
 {
     if net_readers::net_included(file, at) {
         return plus(size, 0, 12 + 2 * net_readers::free_count(file, at) as u64);
@@ -77,7 +79,7 @@ fn with_net(file: &[u8], at: usize, end: usize, size: Size) -> Size
     plus(
         size,
         net_readers::node_count(file, at) as u64,
-        span(at, end) as u64,
+        span(at, ends::flat_net_end(file, at)) as u64,
     )
 }
 
@@ -89,9 +91,8 @@ fn nets_size(file: &[u8], from: usize, count: u32, start: Size) -> Size
     let mut size = start;
     let mut left = count;
     while 0 < left {
-        let end = ends::flat_net_end(file, at);
-        size = with_net(file, at, end, size);
-        at = end;
+        size = with_net(file, at, size);
+        at = ends::next_net(file, at, left);
         left -= 1;
     }
     size

@@ -5,6 +5,7 @@ use lib.ListN.{length}
 use Rattle.net_file.specs.Checks.{flat, read}
 use Rattle.net_check.specs.Verdict.{verdict}
 use Rattle.words.specs.Choose.{pick, if-eq, if-lt}
+use Rattle.run_slice.specs.Run.{on-ran}
 use Rattle.run_slice.specs.Run.{slice as run-slice}
 use Rattle.write_nodes.specs.Wrote.{Wrote}
 use Rattle.lent.specs.Lent.{room, zero-words, zero-bytes}
@@ -18,7 +19,7 @@ use Rattle.finishing.specs.Finishing.{Given, result}
 unfoldable pub optimize-run : List ℕ → List ℕ → List ℕ → Wrote Answer
 optimize-run ws file out =
     let r = run-slice ws file 4294967295 in
-    if-eq (r .is .refusal) 0 (result (r .ws) file out) (record { is = Refused (r .is .refusal); ws = r .ws; out = out })
+    on-ran (r .is) (λ s. result (r .ws) file out) (λ n. record { is = Refused n; ws = r .ws; out = out })
 
 -- a file that is accepted: 9 and 10 as its nets are loaded
 unfoldable pub optimize-loaded : Pools → List ℕ → List ℕ → List ℕ → Wrote Answer

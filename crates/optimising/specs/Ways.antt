@@ -10,8 +10,11 @@ use Rattle.net_check.specs.declared.Checked.{Checked}
 use Rattle.net_check.specs.declared.Checked.the-variants.{Accepted}
 use Rattle.net_check.specs.declared.Checked.the-variants.{Refused as Checked·Refused}
 use Rattle.words.specs.Choose.{eq-yes, eq-no, lt-yes, lt-no, pick-true, pick-false}
+use Rattle.run_slice.specs.Run.{on-ran}
 use Rattle.run_slice.specs.Run.{slice as run-slice}
 use Rattle.run_slice.specs.declared.Ran.{Ran}
+use Rattle.run_slice.specs.declared.Ran.the-variants.{Rested}
+use Rattle.run_slice.specs.declared.Ran.the-variants.{Refused as Ran·Refused}
 use Rattle.write_nodes.specs.Wrote.{Wrote, whole}
 use Rattle.lent.specs.Lent.{room, zero-words, zero-bytes}
 use Rattle.lent.specs.declared.Pools.{Pools}
@@ -21,15 +24,15 @@ use Rattle.begin.specs.Begin.{loaded, on-checked}
 use Rattle.finishing.specs.Finishing.{Given, given, result}
 use Rattle.optimising.specs.Optimising.{optimize-run, optimize-loaded, optimize-file, optimize-checked, optimize}
 
-pub run-finished : (ws w x file out o : List ℕ) (r : Ran) (a : Answer) → r ≡ run-slice ws file 4294967295 .is → w ≡ run-slice ws file 4294967295 .ws → r .refusal ≡ 0
+pub run-finished : (ws w x file out o : List ℕ) (s : ℕ) (r : Ran) (a : Answer) → r ≡ run-slice ws file 4294967295 .is → w ≡ run-slice ws file 4294967295 .ws → r ≡ Rested s
     → a ≡ result w file out .is → x ≡ result w file out .ws → o ≡ result w file out .out → record { is = a; ws = x; out = o } ≡ optimize-run ws file out
-unfolding optimize-run
-run-finished ws w x file out o r a er ew z ea ex eo = eq-yes _ _ _ _ (rw (← er) z) (rw (← ew) (whole (result w file out) ea ex eo))
+unfolding optimize-run on-ran
+run-finished ws w x file out o s r a er ew e ea ex eo = rw (← er, e, ← ew) (whole (result w file out) ea ex eo)
 
-pub run-refused : (ws w file out : List ℕ) (r : Ran) → r ≡ run-slice ws file 4294967295 .is → w ≡ run-slice ws file 4294967295 .ws → (r .refusal ≡ 0 → ⊥)
-    → record { is = Refused (r .refusal); ws = w; out = out } ≡ optimize-run ws file out
-unfolding optimize-run
-run-refused ws w file out r er ew z = eq-no _ _ _ _ (λ e. z (rw er e)) (rw (ew, er))
+pub run-refused : (ws w file out : List ℕ) (s n : ℕ) (r : Ran) → r ≡ run-slice ws file 4294967295 .is → w ≡ run-slice ws file 4294967295 .ws → r ≡ Ran·Refused s n
+    → record { is = Refused n; ws = w; out = out } ≡ optimize-run ws file out
+unfolding optimize-run on-ran
+run-refused ws w file out s n r er ew e = rw (← er, e, ew)
 
 pub loaded-runs : (p : Pools) (ws w x file out o : List ℕ) (r : ℕ) (a : Answer) → r ≡ loaded p ws file .is → w ≡ loaded p ws file .ws → r ≡ 0
     → a ≡ optimize-run w file out .is → x ≡ optimize-run w file out .ws → o ≡ optimize-run w file out .out

@@ -4,17 +4,17 @@ ghost use Rattle.optimising.specs.Optimising.{optimize-run, optimize-loa
 use lent::Answer;
 use lent::Pools;
 use net_check::Checked;
+use run_slice::Ran;
 
 // A loaded file: one slice of none, then the result.
 fn optimize_run(ws: &mut [u32], file: &[u8], out: &mut [u8]) -> Answer
     ensures { λ r. ⌜ (r ≡ optimize-run (now (ws .entry)) (now (file .entry)) (now (out .entry)) .is) × (now (ws .exit) ≡ optimize-run (now (ws .entry)) (now (file .entry)) (now (out .entry)) .ws) × (now (out .exit) ≡ optimize-run (now (ws .entry)) (now (file .entry)) (now (out .entry)) .out) ⌝ }
 {
     let ran = run_slice::slice(ws, file, 4294967295);
-    let refusal = ran.refusal;
-    if refusal == 0 {
-        return finishing::result(ws, file, out);
+    match ran {
+        Ran::Rested(_) => finishing::result(ws, file, out),
+        Ran::Refused { steps: _, number } => Answer::Refused(number),
     }
-    Answer::Refused(refusal)
 }
 
 // An accepted file.

@@ -12,6 +12,8 @@ use Rattle.stored.specs.Stored.{flatNetEnd}
 use Rattle.ends.specs.Ends.{within}
 use Rattle.wiring.specs.Wiring.{netPairs}
 use Rattle.wiring.specs.Fits.{fits}
+use Rattle.orders.specs.declared.Told.{Told}
+use Rattle.orders.specs.declared.Told.the-variants.{Ordered, Not, Wide}
 
 -- w was seen since the base
 unfoldable pub marked : List ℕ → ℕ → ℕ → Bool
@@ -55,13 +57,23 @@ netOrdered counts base last s at =
     (pairsFrom counts base 0 (netPairs s at))
     (record { is = false; ws = counts })
 
--- each net above a base of its own; from the first on that does not fit the counts, `wide` tells
-unfoldable pub netsFrom : (ℕ → ℕ → ℕ → Bool) → List ℕ → ℕ → ℕ → List ℕ → ℕ → ℕ → Bool
-netsFrom wide counts base last s at zero = true
-netsFrom wide counts base last s at (suc n) =
+-- how far n nets are told by the counts, each above a base of its own: all are in order, one is not, or those from a place on do not fit
+unfoldable pub told : List ℕ → ℕ → ℕ → List ℕ → ℕ → ℕ → Left Told
+told counts base last s at zero = record { is = Ordered; ws = counts }
+told counts base last s at (suc n) =
     let x = netOrdered counts base last s at in
-    let r = netsFrom wide (x .ws) (base + 4) (be16 s at + 1) s (within s (flatNetEnd s at)) n in
-    pick (fits counts s at) (pick (x .is) r false) (wide last at (suc n))
+    let r = told (x .ws) (base + 4) (be16 s at + 1) s (within s (flatNetEnd s at)) n in
+    pick (fits counts s at) (pick (x .is) r (record { is = Not; ws = x .ws })) (record { is = Wide last at (suc n); ws = counts })
+
+-- of the nets that do not fit, `wide` tells
+unfoldable pub by-told : (ℕ → ℕ → ℕ → Bool) → Told → Bool
+by-told wide Ordered = true
+by-told wide Not = false
+by-told wide (Wide last at k) = wide last at k
+
+-- n nets, with these counts and then with `wide`
+unfoldable pub netsFrom : (ℕ → ℕ → ℕ → Bool) → List ℕ → ℕ → ℕ → List ℕ → ℕ → ℕ → Bool
+netsFrom wide counts base last s at n = by-told wide (told counts base last s at n .is)
 
 -- at most 256 nets, 65,536 words: no net that is read has more wires
 unfoldable pub netsWide : List ℕ → ℕ → ℕ → ℕ → Bool

@@ -12,10 +12,12 @@ use Rattle.words.specs.Choose.{pick, lt-yes, lt-no, pick-true, pick-false}
 use Rattle.words.specs.Left.{Left, whole}
 use Rattle.fields.specs.Fields.{be16}
 use Rattle.stored.specs.Stored.{tableAt, pairAt, pairsAt, pairCountAt, flatNetEnd}
-use Rattle.ends.specs.Ends.{within, on}
+use Rattle.ends.specs.Ends.{within, on, next-net, next-is}
 use Rattle.wiring.specs.Wiring.{pairRun, netPairs}
 use Rattle.wiring.specs.Fits.{fits}
-use Rattle.orders.specs.Orders.{marked, mark, pairFits, pairStep, pairsFrom, nameFits, netOrdered, netsFrom, netsWide, netsOrdered}
+use Rattle.orders.specs.Orders.{marked, mark, pairFits, pairStep, pairsFrom, nameFits, netOrdered, told, by-told, netsFrom, netsWide, netsOrdered}
+use Rattle.orders.specs.declared.Told.{Told}
+use Rattle.orders.specs.declared.Told.the-variants.{Ordered, Not, Wide}
 
 -- ---- one pair
 
@@ -95,29 +97,49 @@ module _ (s counts : List ℕ) (base last at : ℕ) (t : Bool) (et : t ≡ nameF
 
 -- ---- nets
 
-module _ (wide : ℕ → ℕ → ℕ → Bool) (s counts : List ℕ) (base last at : ℕ) (x f : Bool) (ef : f ≡ fits counts s at) where
+-- by the two tests of a net: whether it fits, and whether it is in order
+by-tests : (wide : ℕ → ℕ → ℕ → Bool) (f t : Bool) (r : Left Told) (c counts : List ℕ) (last at k : ℕ)
+    → by-told wide (pick f (pick t r (record { is = Not; ws = c })) (record { is = Wide last at k; ws = counts }) .is) ≡ pick f (pick t (by-told wide (r .is)) false) (wide last at k)
+unfolding pick by-told
+by-tests wide true true r c counts last at k = refl
+by-tests wide true false r c counts last at k = refl
+by-tests wide false t r c counts last at k = refl
+
+pub nets-zero : (wide : ℕ → ℕ → ℕ → Bool) (counts : List ℕ) (base last : ℕ) (s : List ℕ) (at : ℕ) → netsFrom wide counts base last s at 0 ≡ true
+unfolding netsFrom told by-told
+nets-zero wide counts base last s at = refl
+
+pub nets-suc : (wide : ℕ → ℕ → ℕ → Bool) (counts : List ℕ) (base last : ℕ) (s : List ℕ) (at n : ℕ)
+    → netsFrom wide counts base last s at (suc n)
+    ≡ pick (fits counts s at) (pick (netOrdered counts base last s at .is) (netsFrom wide (netOrdered counts base last s at .ws) (base + 4) (be16 s at + 1) s (within s (flatNetEnd s at)) n) false)
+    (wide last at (suc n))
+unfolding netsFrom told
+nets-suc wide counts base last s at n = by-tests wide (fits counts s at) (netOrdered counts base last s at .is) _ (netOrdered counts base last s at .ws) counts last at (suc n)
+
+module _ (s counts : List ℕ) (base last at : ℕ) (x : Left Told) (f : Bool) (ef : f ≡ fits counts s at) where
   -- a net that does not fit
-  pub nets-unfit : (k : ℕ) (r : Bool) → netsFrom wide counts base last s at k ≡ x → 0 < k → f ≡ false → r ≡ wide last at k → r ≡ x
-  unfolding netsFrom
-  nets-unfit zero r g h n er = absurd (not-suc-le-zero h)
-  nets-unfit (suc k) r g h n er = pick-false _ _ _ (sym ef ∙ n) er ∙ g
+  pub told-unfit : (k : ℕ) → told counts base last s at k ≡ x → 0 < k → f ≡ false → record { is = Wide last at k; ws = counts } ≡ x
+  unfolding told
+  told-unfit zero g h n = absurd (not-suc-le-zero h)
+  told-unfit (suc k) g h n = pick-false _ _ _ (sym ef ∙ n) refl ∙ g
 
   module _ (c : List ℕ) (t : Bool) (y : f ≡ true) (et : t ≡ netOrdered counts base last s at .is) (ec : c ≡ netOrdered counts base last s at .ws) where
-    pub nets-more : (a m k : ℕ) → netsFrom wide counts base last s at k ≡ x → 0 < k → t ≡ true → m ≡ be16 s at + 1 → a ≡ within s (flatNetEnd s at)
-        → netsFrom wide c (base + 4) m s a (k - 1) ≡ x
-    unfolding netsFrom
-    nets-more a m zero g h z em ea = absurd (not-suc-le-zero h)
-    nets-more a m (suc k) g h z em ea = rw (sub-one, ec, em, ea) (pick-true _ _ _ (sym ef ∙ y) (pick-true _ _ _ (sym et ∙ z) refl) ∙ g)
+    pub told-more : (a m k : ℕ) → told counts base last s at k ≡ x → 0 < k → t ≡ true → m ≡ be16 s at + 1 → a ≡ next-net s at k
+        → told c (base + 4) m s a (k - 1) ≡ x
+    unfolding told
+    told-more a m zero g h z em ea = absurd (not-suc-le-zero h)
+    told-more a m (suc zero) g h z em ea = rw ec (pick-true _ _ _ (sym ef ∙ y) (pick-true _ _ _ (sym et ∙ z) refl) ∙ g)
+    told-more a m (suc (suc k)) g h z em ea = rw (sub-one, ec, em, next-is s at a k ea) (pick-true _ _ _ (sym ef ∙ y) (pick-true _ _ _ (sym et ∙ z) refl) ∙ g)
 
-    pub nets-no : (k : ℕ) → netsFrom wide counts base last s at k ≡ x → 0 < k → t ≡ false → false ≡ x
-    unfolding netsFrom
-    nets-no zero g h z = absurd (not-suc-le-zero h)
-    nets-no (suc k) g h z = pick-true _ _ _ (sym ef ∙ y) (pick-false _ _ _ (sym et ∙ z) refl) ∙ g
+    pub told-not : (k : ℕ) → told counts base last s at k ≡ x → 0 < k → t ≡ false → record { is = Not; ws = c } ≡ x
+    unfolding told
+    told-not zero g h z = absurd (not-suc-le-zero h)
+    told-not (suc k) g h z = rw ec (pick-true _ _ _ (sym ef ∙ y) (pick-false _ _ _ (sym et ∙ z) refl) ∙ g)
 
-pub nets-done : (wide : ℕ → ℕ → ℕ → Bool) (s counts : List ℕ) (base last at k : ℕ) (x : Bool) → netsFrom wide counts base last s at k ≡ x → k ≤ 0 → true ≡ x
-unfolding netsFrom
-nets-done wide s counts base last at zero x g h = g
-nets-done wide s counts base last at (suc k) x g h = absurd (not-suc-le-zero h)
+pub told-done : (s counts : List ℕ) (base last at k : ℕ) (x : Left Told) → told counts base last s at k ≡ x → k ≤ 0 → record { is = Ordered; ws = counts } ≡ x
+unfolding told
+told-done s counts base last at zero x g h = g
+told-done s counts base last at (suc k) x g h = absurd (not-suc-le-zero h)
 
 module _ (s : List ℕ) (at n : ℕ) where
   pub wide-over : (last : ℕ) → 256 < n → false ≡ netsWide s last at n
@@ -135,3 +157,31 @@ module _ (s : List ℕ) (at n : ℕ) where
   pub nets-start : n ≤ 256 → netsFrom (netsWide s) (replicate 1024 0) 0 0 s at n ≡ netsOrdered s at n
   unfolding netsOrdered
   nets-start h = lt-no _ _ _ _ h refl
+
+-- ---- with 65,536 words, and with 1,024
+
+module _ (s : List ℕ) (last at n : ℕ) (r : Told) (h : n ≤ 256) (er : r ≡ told (replicate 65536 0) 0 last s at n .is) where
+  pub wide-ordered : r ≡ Ordered → true ≡ netsWide s last at n
+  unfolding netsFrom by-told
+  wide-ordered e = rw (← er, e) at (wide-start s at n last h)
+
+  pub wide-not : r ≡ Not → false ≡ netsWide s last at n
+  unfolding netsFrom by-told
+  wide-not e = rw (← er, e) at (wide-start s at n last h)
+
+  pub wide-wide : (l a k : ℕ) → r ≡ Wide l a k → false ≡ netsWide s last at n
+  unfolding netsFrom by-told
+  wide-wide l a k e = rw (← er, e) at (wide-start s at n last h)
+
+module _ (s : List ℕ) (at n : ℕ) (r : Told) (h : n ≤ 256) (er : r ≡ told (replicate 1024 0) 0 0 s at n .is) where
+  pub nets-all : r ≡ Ordered → true ≡ netsOrdered s at n
+  unfolding netsFrom by-told
+  nets-all e = rw (← er, e) at (nets-start s at n h)
+
+  pub nets-not : r ≡ Not → false ≡ netsOrdered s at n
+  unfolding netsFrom by-told
+  nets-not e = rw (← er, e) at (nets-start s at n h)
+
+  pub nets-wide : (l a k : ℕ) (b : Bool) → r ≡ Wide l a k → b ≡ netsWide s l a k → b ≡ netsOrdered s at n
+  unfolding netsFrom by-told
+  nets-wide l a k b e eb = eb ∙ (rw (← er, e) at (nets-start s at n h))

@@ -1,11 +1,11 @@
 // The orders of check 6 on flat nets: nets ascend by their names; a pair has its smaller wire first, pairs ascend by it, and no
 // wire is in two. `last` is one more than the name or wire before, and 0 at first. A wire is marked by a word above a base,
 // so that nothing has to be cleared between nets; there are 1,024 words and, for nets that may have more wires, 65,536.
-ghost use Prim.Native.Nat.{_+_};
+ghost use Prim.Native.Nat.{_+_, _≤_};
 ghost use mathlib.Core.Path.{_≡_};
 ghost use Rattle.fields.specs.Fields.{be16};
 ghost use Rattle.wiring.specs.Wiring.{pairRun, netPairs};
-ghost use Rattle.orders.specs.Orders.{marked, mark, pairFits, pairStep, pairsFrom, nameFits, netOrdered, netsWide, netsOrdered};
+ghost use Rattle.orders.specs.Orders.{marked, mark, pairFits, pairStep, pairsFrom, nameFits, netOrdered, told, netsWide, netsOrdered};
 
 // Whether a wire was seen.
 fn marked(counts: &[u32], base: u16, w: u16) -> bool
@@ -114,7 +114,41 @@ fn net_ordered(counts: &mut [u32], base: u16, last: u32, s: &[u8], at: usize) ->
     false
 }
 
-// n nets, one after another, each above a base of its own, with a word for each wire that a net may have.
+// How far nets are told by the words at hand: all are in order, one is not, or the nets from a place on, so many, need more words, where
+// the names before are below a number.
+pub enum Told {
+    Ordered,
+    Not,
+    Wide(u32, usize, u16),
+}
+
+// n nets, one after another, each above a base of its own.
+fn nets_told(counts: &mut [u32], s: &[u8], before: u32, from: usize, n: u16) -> Told
+    requires { ⌜ n ≤ 256 ⌝ }
+    ensures { λ r. ⌜ (r ≡ told (now (counts .entry)) 0 before (now (s .entry)) from n .is) × (now (counts .exit) ≡ told (now (counts .entry)) 0 before (now (s .entry)) from n .ws) ⌝ }
+{
+    let mut at = from;
+    let mut base: u16 = 0;
+    let mut last: u32 = before;
+    let mut k = n;
+    while 0 < k {
+        if wiring::fits(counts, s, at) {
+            if net_ordered(counts, base, last, s, at) {
+                last = above_name(s, at);
+                at = ends::next_net(s, at, k as u32);
+                base += 4;
+                k -= 1;
+            } else {
+                return Told::Not;
+            }
+        } else {
+            return Told::Wide(last, at, k);
+        }
+    }
+    Told::Ordered
+}
+
+// With a word for each wire that a net may have.
 fn nets_wide(s: &[u8], before: u32, from: usize, n: u16) -> bool
     ensures { λ r. ⌜ r ≡ netsWide (now (s .entry)) before from n ⌝ }
 {
@@ -122,28 +156,15 @@ fn nets_wide(s: &[u8], before: u32, from: usize, n: u16) -> bool
         return false;
     }
     let mut counts = [0u32; 65536];
-    let mut at = from;
-    let mut base: u16 = 0;
-    let mut last: u32 = before;
-    let mut k = n;
-    while 0 < k {
-        if wiring::fits(&counts, s, at) {
-            if net_ordered(&mut counts, base, last, s, at) {
-                last = above_name(s, at);
-                at = ends::flat_net_end(s, at);
-                base += 4;
-                k -= 1;
-            } else {
-                return false;
-            }
-        } else {
-            return false;
-        }
+    let told = nets_told(&mut counts, s, before, from, n);
+    match told {
+        Told::Ordered => true,
+        Told::Not => false,
+        Told::Wide(_, _, _) => false,
     }
-    true
 }
 
-// n nets, with words for 1,024 wires up to a net that may have more.
+// With words for 1,024 wires, up to a net that may have more.
 pub fn nets_ordered(s: &[u8], from: usize, n: u16) -> bool
     ensures { λ r. ⌜ r ≡ netsOrdered (now (s .entry)) from n ⌝ }
 {
@@ -151,23 +172,10 @@ pub fn nets_ordered(s: &[u8], from: usize, n: u16) -> bool
         return false;
     }
     let mut counts = [0u32; 1024];
-    let mut at = from;
-    let mut base: u16 = 0;
-    let mut last: u32 = 0;
-    let mut k = n;
-    while 0 < k {
-        if wiring::fits(&counts, s, at) {
-            if net_ordered(&mut counts, base, last, s, at) {
-                last = above_name(s, at);
-                at = ends::flat_net_end(s, at);
-                base += 4;
-                k -= 1;
-            } else {
-                return false;
-            }
-        } else {
-            return nets_wide(s, last, at, k);
-        }
+    let told = nets_told(&mut counts, s, 0, from, n);
+    match told {
+        Told::Ordered => true,
+        Told::Not => false,
+        Told::Wide(last, at, k) => nets_wide(s, last, at, k),
     }
-    true
 }

@@ -24,7 +24,7 @@ use Rattle.wiring.specs.Fits.{fits-cases}
 use Rattle.walk.specs.Loops.{times-suc}
 use Rattle.stored.specs.Pass.{pass}
 use Rattle.orders.specs.Orders.{mark, pairsFrom, nameFits, netOrdered, netsFrom, netsWide, netsOrdered}
-use Rattle.orders.specs.Steps.{wide-start, nets-start}
+use Rattle.orders.specs.Steps.{wide-start, nets-start, nets-zero, nets-suc}
 use Rattle.orders_laws.specs.Ascend.{ascendFrom, ascends}
 use Rattle.orders_laws.specs.Pairs.{mark-length, mark-low, pairs-keep, pairs-ordered}
 use Rattle.orders_laws.specs.Flat.{FlatRead, flat-read}
@@ -72,8 +72,8 @@ module _ (s : List ℕ) (paths names : ℕ) where
 
   stored-ordered : (wide : ℕ → ℕ → ℕ → Bool) (len : ℕ) → Tells wide len → (n at base last : ℕ) (counts : List ℕ) (ns : List FlatNet) (r : List ℕ) → at ≤ length s
       → times n (readFlatNet paths names) (drop at s) ≡ some (ns, r) → n ≤ 256 → length counts ≡ len → Low counts base → netsFrom wide counts base last s at n ≡ Says last at n
-  unfolding netsFrom tableAt ascendFrom flatNetAt pick
-  stored-ordered wide len tells zero at base last counts ns r i h v e l = refl
+  unfolding tableAt ascendFrom flatNetAt pick
+  stored-ordered wide len tells zero at base last counts ns r i h v e l = nets-zero wide counts base last s at
   stored-ordered wide len tells (suc n) at base last counts ns r i h v e l =
       let aNet = readFlatNet paths names in
       let g : (aNet >>= λ x. times n aNet >>= λ xs. give (x ∷ xs)) (drop at s) ≡ some (ns, r) = rw times-suc at h in
@@ -88,9 +88,9 @@ module _ (s : List ℕ) (paths names : ℕ) where
       let xs = tableAt (flatNetAt s) (flatNetEnd s) (flatNetEnd s at) n in
       elim (fits-cases counts s at) [
         | inl y ↦
-            rw (y .0, t, q, net-ordered s counts base last at f (y .1) l)
+            rw (nets-suc, y .0, t, q, net-ordered s counts base last at f (y .1) l)
             (join (leb last (be16 s at)) (pairsOrdered (flatNetAt s at .pairs)) (ascendFrom (be16 s at + 1) (map (λ x. x .name) xs)) (all (λ x. pairsOrdered (x .pairs)) xs))
-        | inr y ↦ rw (y .0) (tells n at last ns r i h v (omega (arith, e, y .1)))
+        | inr y ↦ rw (nets-suc, y .0) (tells n at last ns r i h v (omega (arith, e, y .1)))
       ]
 
   -- no net that is read has more than 65,536 wires

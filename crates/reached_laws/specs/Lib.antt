@@ -4,5 +4,8 @@ pub mod Wires
 pub mod Runs
 pub mod Counted
 pub mod Calls
+pub mod Kept
 pub mod Accepted
+pub mod Files
+pub mod Entries
 pub mod Image

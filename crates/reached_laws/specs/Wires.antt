@@ -43,6 +43,27 @@ use Rattle.reached_laws.specs.Nets.{after-edits, eta-nets}
 abbrev pub Wires : ℕ → Condition
 Wires path g hs rs = Rest path hs g × Unnamed path rs
 
+-- ---- nets by name and number
+
+pub find-true : (f : ℕ → Bool) (ks : List ℕ) (m : ℕ) → find f ks ≡ some m → f m ≡ true
+find-true f [] m h = absurd (let z : _≡_ {A = ℕ} 0 1 = cc in omega arith)
+find-true f (k ∷ ks) m h = go (f k) refl h (λ t. find-true f ks m t)
+  where
+    go : (t : Bool) → f k ≡ t → elim t as (λ _. Option ℕ) [ true ↦ some k | false ↦ find f ks ] ≡ some m → (find f ks ≡ some m → f m ≡ true) → f m ≡ true
+    go true q r s = ap f (sym (Option·some-injective k m r)) ∙ q
+    go false q r s = s r
+
+pub nth-at : {A : Type 0} (xs : List A) (k : ℕ) (d : A) → k < length xs → nth xs k ≡ some (getD xs k d)
+nth-at [] k d l = absurd (omega arith)
+nth-at (x ∷ xs) zero d l = refl
+nth-at (x ∷ xs) (suc k) d l = nth-at xs k d (omega arith)
+
+pub home-at : (e : Engine) (m : ℕ) → m < length (e .nets) → nth (homes e) m ≡ some (netAt e m .home)
+unfolding netAt
+home-at e m l =
+    let ln = length-map (e .nets) (λ (t : Net). t .home) in
+    nth-at (homes e) m (record { name = 0; free = 0 }) (omega arith) ∙ ap {B = Option Home} some (List·getD-map (λ (t : Net). t .home) (e .nets) m (newNet (record { name = 0; free = 0 })))
+
 module _ (path : ℕ) where
   -- a rule's script fits: its new nodes are in order in net k, and its dead nodes are of net k
   acts-fit : (x : ℕ → ℕ) (e : Engine) → Good x e → Of (Wires path) e → (m : Option ℕ) (s : Script) → Acts (e .rules) (homes e) (graphOf e) (fresh e) m s
@@ -68,25 +89,6 @@ module _ (path : ℕ) where
       go (inr k) r = r k
 
   -- ---- grafts
-
-  find-true : (f : ℕ → Bool) (ks : List ℕ) (m : ℕ) → find f ks ≡ some m → f m ≡ true
-  find-true f [] m h = absurd (let z : _≡_ {A = ℕ} 0 1 = cc in omega arith)
-  find-true f (k ∷ ks) m h = go (f k) refl h (λ t. find-true f ks m t)
-    where
-      go : (t : Bool) → f k ≡ t → elim t as (λ _. Option ℕ) [ true ↦ some k | false ↦ find f ks ] ≡ some m → (find f ks ≡ some m → f m ≡ true) → f m ≡ true
-      go true q r s = ap f (sym (Option·some-injective k m r)) ∙ q
-      go false q r s = s r
-
-  nth-at : {A : Type 0} (xs : List A) (k : ℕ) (d : A) → k < length xs → nth xs k ≡ some (getD xs k d)
-  nth-at [] k d l = absurd (omega arith)
-  nth-at (x ∷ xs) zero d l = refl
-  nth-at (x ∷ xs) (suc k) d l = nth-at xs k d (omega arith)
-
-  home-at : (e : Engine) (m : ℕ) → m < length (e .nets) → nth (homes e) m ≡ some (netAt e m .home)
-  unfolding netAt
-  home-at e m l =
-      let ln = length-map (e .nets) (λ (t : Net). t .home) in
-      nth-at (homes e) m (record { name = 0; free = 0 }) (omega arith) ∙ ap {B = Option Home} some (List·getD-map (λ (t : Net). t .home) (e .nets) m (newNet (record { name = 0; free = 0 })))
 
   listed-at : (e : Engine) (m : ℕ) → getD (map listOf (e .nets)) m [] ≡ netAt e m .list .items
   unfolding netAt

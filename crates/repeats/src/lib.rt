@@ -119,7 +119,7 @@ pub fn search(s: &[u8], sorted: &[usize], m: usize, at: usize, n: usize) -> usiz
 }
 
 // Whether the place that was found holds the same n bytes.
-fn known(s: &[u8], sorted: &[usize], m: usize, p: usize, at: usize, n: usize) -> bool
+pub fn known(s: &[u8], sorted: &[usize], m: usize, p: usize, at: usize, n: usize) -> bool
     ensures { λ r. ⌜ r ≡ known (now (s .entry)) (now (sorted .entry)) m p at n ⌝ }
 {
     if m <= p {

@@ -26,7 +26,7 @@ use Rattle.repeats_laws.specs.Paths.{distinct-table}
 use Rattle.repeats_laws.specs.Numbers.{alike-part, alike-join, be16-alike, be64-alike, numbers-alike, length-numbers, alike-be16, alike-be64, alike-numbers}
 
 module _ (s : List ℕ) where
-  name-end : (a : ℕ) → nameEnd s a ≡ itemEnd s Named a
+  pub name-end : (a : ℕ) → nameEnd s a ≡ itemEnd s Named a
   unfolding nameEnd listEnd itemEnd size-of
   name-end a = omega arith
 
@@ -69,7 +69,8 @@ module _ (s : List ℕ) where
         rw name-size (alike-join s 2 _ a b (alike-be16 s small a b (g .path))
         (alike-join s 8 _ (a + 2) (b + 2) (alike-be64 s small (a + 2) (b + 2) (g .payload)) (rw (p, q) t)))
 
-    name-same : (a b : ℕ) → eqs (itemAt s Named a) (itemAt s Named b) ≡ sameName (nameAt s a) (nameAt s b)
+    -- two names are the same where their bytes are
+    pub name-same : (a b : ℕ) → eqs (itemAt s Named a) (itemAt s Named b) ≡ sameName (nameAt s a) (nameAt s b)
     unfolding sameName nameAt
     name-same a b = same-test _ _
         (λ e.

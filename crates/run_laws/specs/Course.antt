@@ -15,7 +15,10 @@ use Rattle.tried.specs.declared.Tried.{Tried}
 use Rattle.tried.specs.declared.Tried.the-variants.{Passed, Acted, Refused}
 use Rattle.run_slice.specs.Run.{turn, on-went, step-on, over, go-on, run}
 use Rattle.run_slice.specs.declared.Ran.{Ran}
-use Rattle.run_slice.specs.declared.Went.the-variants.{Go, Stop}
+use Rattle.run_slice.specs.declared.Ran.the-variants.{Rested}
+use Rattle.run_slice.specs.declared.Ran.the-variants.{Refused as Ran·Refused}
+use Rattle.run_slice.specs.declared.Went.the-variants.{Go, Rest}
+use Rattle.run_slice.specs.declared.Went.the-variants.{Refused as Went·Refused}
 
 -- the words ask for a turn: the limit is not spent, and there is an entry
 unfoldable pub alive : List ℕ → Bool
@@ -30,22 +33,31 @@ unfoldable pub rests : List ℕ → List ℕ → List ℕ → ℕ → ℕ → �
 rests ws file sets most s zero = false
 rests ws file sets most s (suc k) =
     let g = step-on ws file sets s in
-    pick (moves ws most s) (on-went (g .is) (λ s′. rests (g .ws) file sets most s′ k) (λ r. false)) true
+    pick (moves ws most s) (on-went (g .is) (λ s′. rests (g .ws) file sets most s′ k) true (λ r. false)) true
 
 -- within k turns the run rests or is refused
 unfoldable pub ends : List ℕ → List ℕ → List ℕ → ℕ → ℕ → ℕ → Bool
 ends ws file sets most s zero = false
 ends ws file sets most s (suc k) =
     let g = step-on ws file sets s in
-    pick (moves ws most s) (on-went (g .is) (λ s′. ends (g .ws) file sets most s′ k) (λ r. true)) true
+    pick (moves ws most s) (on-went (g .is) (λ s′. ends (g .ws) file sets most s′ k) true (λ r. true)) true
 
 -- what a run leaves, whether it ends, and whether it rests
 unfoldable pub course : List ℕ → List ℕ → List ℕ → ℕ → ℕ → ℕ → Left Ran × Bool × Bool
 course ws file sets most s k = (run ws file sets most s k, ends ws file sets most s k, rests ws file sets most s k)
 
--- a run's answer after s steps, refused by r, 0 where it rests
-abbrev pub ran : ℕ → ℕ → List ℕ → Left Ran
-ran s r ws = record { is = record { steps = s; refusal = r }; ws = ws }
+-- the steps of a run's answer
+abbrev pub taken : Ran → ℕ
+taken (Rested s) = s
+taken (Ran·Refused s r) = s
+
+-- a run that rests after s steps
+abbrev pub at-rest : ℕ → List ℕ → Left Ran
+at-rest s ws = record { is = Rested s; ws = ws }
+
+-- a run that is refused by r after s steps
+abbrev pub at-refusal : ℕ → ℕ → List ℕ → Left Ran
+at-refusal s r ws = record { is = Ran·Refused s r; ws = ws }
 
 pub not-both : {P : Type 0} (b : Bool) → b ≡ true → b ≡ false → P
 not-both true e f = let z : _≡_ {A = ℕ} 0 1 = cc in absurd (omega arith)
@@ -65,9 +77,9 @@ order false false true x y = refl
 order false false false x y = refl
 
 -- a turn is taken where `moves` holds; elsewhere the run rests
-pub go-on-moves : (ws file sets : List ℕ) (most s : ℕ) → go-on ws file sets most s ≡ pick (moves ws most s) (step-on ws file sets s) (record { is = Stop 0; ws = ws })
+pub go-on-moves : (ws file sets : List ℕ) (most s : ℕ) → go-on ws file sets most s ≡ pick (moves ws most s) (step-on ws file sets s) (record { is = Rest; ws = ws })
 unfolding go-on over moves alive if-eq if-lt
-go-on-moves ws file sets most s = order (ltb s most) (eqb (limit ws) 0) (eqb (dirty-length ws) 0) (step-on ws file sets s) (record { is = Stop 0; ws = ws })
+go-on-moves ws file sets most s = order (ltb s most) (eqb (limit ws) 0) (eqb (dirty-length ws) 0) (step-on ws file sets s) (record { is = Rest; ws = ws })
 
 kept : (t : Bool) → pick t true false ≡ t
 unfolding pick
@@ -115,7 +127,7 @@ stops ws most s e = elim (lt-cases s most (alive ws) false) [ inl p ↦ inr (sym
 pub data Way (ws file sets : List ℕ) (most s : ℕ) : Type 0 where
   still : moves ws most s ≡ false → Way ws file sets most s
   goes : (c : ℕ) (w : List ℕ) → c ≤ 1 → moves ws most s ≡ true → ((x : ℕ) → x < 4294967295 → step-on ws file sets x ≡ record { is = Go (x + c); ws = w }) → Way ws file sets most s
-  refused : (r : ℕ) (w : List ℕ) → moves ws most s ≡ true → ((x : ℕ) → step-on ws file sets x ≡ record { is = Stop r; ws = w }) → Way ws file sets most s
+  refused : (r : ℕ) (w : List ℕ) → moves ws most s ≡ true → ((x : ℕ) → step-on ws file sets x ≡ record { is = Went·Refused r; ws = w }) → Way ws file sets most s
 
 module _ (ws file sets : List ℕ) (most s : ℕ) where
   way-by : (b : Bool) (t : Tried) → moves ws most s ≡ b → turn ws file sets .is ≡ t → Way ws file sets most s
@@ -131,7 +143,7 @@ module _ (ws file sets : List ℕ) (most s : ℕ) where
 -- ---- what the course is on each way
 
 module _ (ws file sets : List ℕ) (most s k : ℕ) where
-  pub still-run : moves ws most s ≡ false → run ws file sets most s (suc k) ≡ ran s 0 ws
+  pub still-run : moves ws most s ≡ false → run ws file sets most s (suc k) ≡ at-rest s ws
   unfolding run on-went pick
   still-run m = rw (go-on-moves, m)
 
@@ -139,7 +151,7 @@ module _ (ws file sets : List ℕ) (most s k : ℕ) where
   unfolding rests pick
   still-rests m = rw m
 
-  pub still-course : moves ws most s ≡ false → course ws file sets most s (suc k) ≡ (ran s 0 ws, true, true)
+  pub still-course : moves ws most s ≡ false → course ws file sets most s (suc k) ≡ (at-rest s ws, true, true)
   unfolding course ends pick
   still-course m = rw (still-run m, still-rests m, m)
 
@@ -160,8 +172,8 @@ module _ (ws file sets : List ℕ) (most s k : ℕ) where
     unfolding course
     goes-course = rw (goes-run, goes-ends, goes-rests)
 
-  module _ (r : ℕ) (w : List ℕ) (m : moves ws most s ≡ true) (e : step-on ws file sets s ≡ record { is = Stop r; ws = w }) where
-    pub refused-run : run ws file sets most s (suc k) ≡ ran s r w
+  module _ (r : ℕ) (w : List ℕ) (m : moves ws most s ≡ true) (e : step-on ws file sets s ≡ record { is = Went·Refused r; ws = w }) where
+    pub refused-run : run ws file sets most s (suc k) ≡ at-refusal s r w
     unfolding run on-went pick
     refused-run = rw (go-on-moves, m, e)
 
@@ -169,6 +181,6 @@ module _ (ws file sets : List ℕ) (most s k : ℕ) where
     unfolding rests on-went pick
     refused-rests = rw (m, e)
 
-    pub refused-course : course ws file sets most s (suc k) ≡ (ran s r w, true, false)
+    pub refused-course : course ws file sets most s (suc k) ≡ (at-refusal s r w, true, false)
     unfolding course ends on-went pick
     refused-course = rw (refused-run, refused-rests, m, e)

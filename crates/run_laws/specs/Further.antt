@@ -7,7 +7,7 @@ use native.Mathlib.Omega.{arith}
 use Rattle.words.specs.Left.{Left}
 use Rattle.run_slice.specs.Run.{run}
 use Rattle.run_slice.specs.declared.Ran.{Ran}
-use Rattle.run_laws.specs.Course.{rests, ends, course, ran, moves, not-both, moves-below, moves-alive, alive-moves, still, goes, refused, way, still-run, still-rests, still-course, goes-run, goes-rests, goes-ends, goes-course, refused-rests, refused-course}
+use Rattle.run_laws.specs.Course.{rests, ends, course, at-rest, taken, moves, not-both, moves-below, moves-alive, alive-moves, still, goes, refused, way, still-run, still-rests, still-course, goes-run, goes-rests, goes-ends, goes-course, refused-rests, refused-course}
 
 more : (k j : ℕ) → suc k + j ≡ suc (k + j)
 more k j = omega arith
@@ -42,12 +42,12 @@ module _ (file sets : List ℕ) where
 
     -- a run of N steps at most is one of n that rested, and the rest from there
     pub run-goes-on : (ws : List ℕ) (s k : ℕ) (a : Left Ran) → a ≡ run ws file sets n s k → rests ws file sets n s k ≡ true
-        → ends (a .ws) file sets N (a .is .steps) j ≡ true → course ws file sets N s (k + j) ≡ course (a .ws) file sets N (a .is .steps) j
+        → ends (a .ws) file sets N (taken (a .is)) j ≡ true → course ws file sets N s (k + j) ≡ course (a .ws) file sets N (taken (a .is)) j
     unfolding rests
     run-goes-on ws s zero a ea e f = not-both false e refl
     run-goes-on ws s (suc k) a ea e f = elim (way ws file sets n s) [
       | still m ↦
-          let q : a ≡ ran s 0 ws = ea ∙ still-run ws file sets n s k m in
+          let q : a ≡ at-rest s ws = ea ∙ still-run ws file sets n s k m in
           let z : suc k + j ≡ j + suc k = omega arith in
           rw (z, q) (more-fuel ws N s j (suc k) b (rw q at f))
       | goes c w i m t ↦

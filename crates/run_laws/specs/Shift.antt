@@ -11,11 +11,17 @@ use Rattle.words.specs.Choose.{if-lt}
 use Rattle.words.specs.Left.{Left}
 use Rattle.run_slice.specs.Run.{run}
 use Rattle.run_slice.specs.declared.Ran.{Ran}
-use Rattle.run_laws.specs.Course.{rests, ends, course, ran, moves, moves-below, still, goes, refused, way, still-run, still-course, goes-run, goes-course, refused-run, refused-course}
+use Rattle.run_slice.specs.declared.Ran.the-variants.{Rested, Refused}
+use Rattle.run_laws.specs.Course.{rests, ends, course, taken, moves, moves-below, still, goes, refused, way, still-run, still-course, goes-run, goes-course, refused-run, refused-course}
+
+-- how a run ends, with d more steps
+unfoldable pub longer : ℕ → Ran → Ran
+longer d (Rested s) = Rested (d + s)
+longer d (Refused s r) = Refused (d + s) r
 
 -- a run's answer with d more steps
 unfoldable pub later : ℕ → Left Ran → Left Ran
-later d x = ran (d + x .is .steps) (x .is .refusal) (x .ws)
+later d x = record { is = longer d (x .is); ws = x .ws }
 
 -- a run's course with d more steps
 unfoldable pub shifted : ℕ → Left Ran × Bool × Bool → Left Ran × Bool × Bool
@@ -29,7 +35,7 @@ same-below a b c e f g = elim (decLt a b) [
 
 module _ (file sets : List ℕ) where
   -- steps are only added
-  pub steps-grow : (ws : List ℕ) (most s k : ℕ) → most ≤ 4294967295 → s ≤ run ws file sets most s k .is .steps
+  pub steps-grow : (ws : List ℕ) (most s k : ℕ) → most ≤ 4294967295 → s ≤ taken (run ws file sets most s k .is)
   unfolding run
   steps-grow ws most s zero b = omega arith
   steps-grow ws most s (suc k) b = elim (way ws file sets most s) [
@@ -47,8 +53,8 @@ module _ (file sets : List ℕ) where
     unfolding moves if-lt
     moves-same ws s h = rw (same s h)
 
-    pub course-shift : (ws : List ℕ) (s k : ℕ) → run ws file sets M s k .is .steps ≤ top → course ws file sets N (d + s) k ≡ shifted d (course ws file sets M s k)
-    unfolding course run ends rests shifted later
+    pub course-shift : (ws : List ℕ) (s k : ℕ) → taken (run ws file sets M s k .is) ≤ top → course ws file sets N (d + s) k ≡ shifted d (course ws file sets M s k)
+    unfolding course run ends rests shifted later longer
     course-shift ws s zero h = refl
     course-shift ws s (suc k) h =
         let i = steps-grow ws M s (suc k) bM in
@@ -70,12 +76,12 @@ module _ (file sets : List ℕ) where
   -- counting from d + s against d + most
   pub run-shift : (ws : List ℕ) (most s d k : ℕ) → d + most < 4294967296 → course ws file sets (d + most) (d + s) k ≡ shifted d (course ws file sets most s k)
   run-shift ws most s d k b =
-      course-shift most (d + most) d (run ws file sets most s k .is .steps) (omega arith) (omega arith)
+      course-shift most (d + most) d (taken (run ws file sets most s k .is)) (omega arith) (omega arith)
       (λ x h. same-below x most (d + x) (d + most) (λ i. omega arith) (λ i. omega arith)) ws s k (omega arith)
 
   -- counting from d + s in a slice that is none, which the steps do not reach
-  pub run-shift-none : (ws : List ℕ) (s d k : ℕ) → d + run ws file sets 4294967295 s k .is .steps < 4294967295
+  pub run-shift-none : (ws : List ℕ) (s d k : ℕ) → d + taken (run ws file sets 4294967295 s k .is) < 4294967295
       → course ws file sets 4294967295 (d + s) k ≡ shifted d (course ws file sets 4294967295 s k)
   run-shift-none ws s d k b =
-      course-shift 4294967295 4294967295 d (run ws file sets 4294967295 s k .is .steps) (omega arith) (omega arith)
+      course-shift 4294967295 4294967295 d (taken (run ws file sets 4294967295 s k .is)) (omega arith) (omega arith)
       (λ x h. same-below x 4294967295 (d + x) 4294967295 (λ i. omega arith) (λ i. omega arith)) ws s k (omega arith)

@@ -9,17 +9,17 @@ use Rattle.words.specs.Left.{Left}
 use Rattle.net_file.specs.Lists.{sum}
 use Rattle.run_slice.specs.Run.{run}
 use Rattle.run_slice.specs.declared.Ran.{Ran}
-use Rattle.run_laws.specs.Course.{rests, ends, course, ran, alive, moves, still-course}
+use Rattle.run_laws.specs.Course.{rests, ends, course, at-rest, taken, alive, moves, still-course}
 use Rattle.run_laws.specs.Further.{refused-goes-on}
 use Rattle.run_laws.specs.Shift.{later, shifted}
 use Rattle.run_laws.specs.Compose.{courses-compose, none-composes}
 
 -- slices of k turns each, the next one on the words that the one before left; a refusal stops
 unfoldable pub slices : List ℕ → List ℕ → List ℕ → ℕ → List ℕ → Left Ran
-slices ws file sets k [] = ran 0 0 ws
+slices ws file sets k [] = at-rest 0 ws
 slices ws file sets k (m ∷ ms) =
     let a = run ws file sets m 0 k in
-    pick (rests ws file sets m 0 k) (later (a .is .steps) (slices (a .ws) file sets k ms)) a
+    pick (rests ws file sets m 0 k) (later (taken (a .is)) (slices (a .ws) file sets k ms)) a
 
 -- each slice rests within its turns
 unfoldable pub all-rest : List ℕ → List ℕ → List ℕ → ℕ → List ℕ → Bool
@@ -52,7 +52,7 @@ module _ (file sets : List ℕ) (k : ℕ) where
     one-rests : rests ws file sets m 0 k ≡ true → One (a .ws) ms → One ws (m ∷ ms)
     unfolding slices all-rest turns pick course shifted
     one-rests e g =
-        courses-compose file sets ws m k (turns k ms) a refl e (sum ms) b (ap (λ p. p .1) g) ∙ ap (shifted (a .is .steps)) g ∙ rw e
+        courses-compose file sets ws m k (turns k ms) a refl e (sum ms) b (ap (λ p. p .1) g) ∙ ap (shifted (taken (a .is))) g ∙ rw e
 
     one-refused : rests ws file sets m 0 k ≡ false → One ws (m ∷ ms)
     unfolding slices all-rest all-end turns pick course
@@ -84,8 +84,8 @@ module _ (file sets : List ℕ) (k : ℕ) where
   -- slices that rest, and then a slice that is none: one run without a slice
   pub slices-then-none : (ws ms : List ℕ) (j : ℕ) (a : Left Ran) → a ≡ slices ws file sets k ms → sum ms < 4294967296 → all-end ws file sets k ms ≡ true
       → all-rest ws file sets k ms ≡ true → ends (a .ws) file sets 4294967295 0 j ≡ true
-      → a .is .steps + run (a .ws) file sets 4294967295 0 j .is .steps < 4294967295
-      → run ws file sets 4294967295 0 (turns k ms + j) ≡ later (a .is .steps) (run (a .ws) file sets 4294967295 0 j)
+      → taken (a .is) + taken (run (a .ws) file sets 4294967295 0 j .is) < 4294967295
+      → run ws file sets 4294967295 0 (turns k ms + j) ≡ later (taken (a .is)) (run (a .ws) file sets 4294967295 0 j)
   unfolding course
   slices-then-none ws ms j a ea b f e g h =
       let c = slices-are-one ws ms b f in

@@ -10,7 +10,7 @@ use Rattle.net_file.specs.Lists.{sum}
 use Rattle.rule_sets.specs.Sets.{rule-sets}
 use Rattle.run_slice.specs.Run.{run, slice, fuel}
 use Rattle.run_slice.specs.declared.Ran.{Ran}
-use Rattle.run_laws.specs.Course.{rests, ends, course}
+use Rattle.run_laws.specs.Course.{rests, ends, course, taken}
 use Rattle.run_laws.specs.Further.{any-fuel}
 use Rattle.run_laws.specs.Shift.{later, shifted}
 use Rattle.run_laws.specs.Compose.{courses-compose}
@@ -23,7 +23,7 @@ sets-of file = rule-sets file (replicate 2112 0)
 module _ (ws file sets : List ℕ) (k : ℕ) where
   -- k turns are enough for both slices and for the whole
   pub within : (n m : ℕ) (a : Left Ran) → a ≡ run ws file sets n 0 k → n + m < 4294967296 → rests ws file sets n 0 k ≡ true
-      → ends (a .ws) file sets m 0 k ≡ true → ends ws file sets (n + m) 0 k ≡ true → run ws file sets (n + m) 0 k ≡ later (a .is .steps) (run (a .ws) file sets m 0 k)
+      → ends (a .ws) file sets m 0 k ≡ true → ends ws file sets (n + m) 0 k ≡ true → run ws file sets (n + m) 0 k ≡ later (taken (a .is)) (run (a .ws) file sets m 0 k)
   unfolding course shifted
   within n m a ea b e f g =
       let c = courses-compose file sets ws n k k a ea e m b f in
@@ -40,7 +40,7 @@ module _ (ws file sets : List ℕ) (k : ℕ) where
 -- two slices
 pub slice-of-both : (ws file : List ℕ) (n m : ℕ) (a : Left Ran) → a ≡ slice ws file n → n + m < 4294967296 → rests ws file (sets-of file) n 0 fuel ≡ true
     → ends (a .ws) file (sets-of file) m 0 fuel ≡ true → ends ws file (sets-of file) (n + m) 0 fuel ≡ true
-    → slice ws file (n + m) ≡ later (a .is .steps) (slice (a .ws) file m)
+    → slice ws file (n + m) ≡ later (taken (a .is)) (slice (a .ws) file m)
 unfolding slice
 slice-of-both ws file n m a ea b e f g = within ws file (sets-of file) fuel n m a ea b e f g
 

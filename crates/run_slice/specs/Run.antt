@@ -16,8 +16,11 @@ use Rattle.tried.specs.declared.Tried.{Tried}
 use Rattle.tried.specs.declared.Tried.the-variants.{Passed, Acted, Refused}
 use Rattle.visit.specs.Visits.{visit}
 use Rattle.run_slice.specs.declared.Ran.{Ran}
+use Rattle.run_slice.specs.declared.Ran.the-variants.{Rested}
+use Rattle.run_slice.specs.declared.Ran.the-variants.{Refused as Ran·Refused}
 use Rattle.run_slice.specs.declared.Went.{Went}
-use Rattle.run_slice.specs.declared.Went.the-variants.{Go, Stop}
+use Rattle.run_slice.specs.declared.Went.the-variants.{Go, Rest}
+use Rattle.run_slice.specs.declared.Went.the-variants.{Refused as Went·Refused}
 
 -- the visit has ended: the node visited counts no more in its net
 unfoldable pub leave : List ℕ → ℕ → List ℕ
@@ -49,16 +52,17 @@ turn ws file sets =
     let k = less (dirty-length ws) in
     entry-turn (set ws 14 k) file sets (getD ws (dirty-at k) 0)
 
--- by what a turn leads to: the steps taken, or by what the run is refused, 0 where it rests
-unfoldable pub on-went : {A : Type 0} → Went → (ℕ → A) → (ℕ → A) → A
-on-went (Go s) go stop = go s
-on-went (Stop r) go stop = stop r
+-- by what a turn leads to: the steps taken, rest, or by what the run is refused
+unfoldable pub on-went : {A : Type 0} → Went → (ℕ → A) → A → (ℕ → A) → A
+on-went (Go s) go rest refused = go s
+on-went Rest go rest refused = rest
+on-went (Went·Refused r) go rest refused = refused r
 
 -- a turn after s steps
 unfoldable pub step-on : List ℕ → List ℕ → List ℕ → ℕ → Left Went
 step-on ws file sets s =
     let a = turn ws file sets in
-    on-tried (a .is) (record { is = Go s; ws = a .ws }) (record { is = Go (next s); ws = a .ws }) (λ r. record { is = Stop r; ws = a .ws })
+    on-tried (a .is) (record { is = Go s; ws = a .ws }) (record { is = Go (next s); ws = a .ws }) (λ r. record { is = Went·Refused r; ws = a .ws })
 
 -- no step is left: s of `most` are taken, or the limit is spent
 unfoldable pub over : List ℕ → ℕ → ℕ → Bool
@@ -67,15 +71,20 @@ over ws most s = if-lt s most (eqb (limit ws) 0) true
 -- a turn, while there are steps and entries
 unfoldable pub go-on : List ℕ → List ℕ → List ℕ → ℕ → ℕ → Left Went
 go-on ws file sets most s =
-    let rest : Left Went = record { is = Stop 0; ws = ws } in
+    let rest : Left Went = record { is = Rest; ws = ws } in
     pick (over ws most s) rest (if-eq (dirty-length ws) 0 rest (step-on ws file sets s))
 
--- turn after turn, after s steps
+-- by how a run ends: the steps where it rests, or by what it is refused
+unfoldable pub on-ran : {A : Type 0} → Ran → (ℕ → A) → (ℕ → A) → A
+on-ran (Rested s) rested refused = rested s
+on-ran (Ran·Refused s r) rested refused = refused r
+
+-- turn after turn, after s steps; the answer has all steps, also where the run is refused
 unfoldable pub run : List ℕ → List ℕ → List ℕ → ℕ → ℕ → ℕ → Left Ran
-run ws file sets most s zero = record { is = record { steps = s; refusal = 0 }; ws = ws }
+run ws file sets most s zero = record { is = Rested s; ws = ws }
 run ws file sets most s (suc k) =
     let g = go-on ws file sets most s in
-    on-went (g .is) (λ s′. run (g .ws) file sets most s′ k) (λ r. record { is = record { steps = s; refusal = r }; ws = g .ws })
+    on-went (g .is) (λ s′. run (g .ws) file sets most s′ k) (record { is = Rested s; ws = g .ws }) (λ r. record { is = Ran·Refused s r; ws = g .ws })
 
 -- turns enough for every run: crates/fuel_laws proves it of the engine
 abbrev pub fuel : ℕ

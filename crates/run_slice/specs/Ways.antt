@@ -4,10 +4,9 @@ use mathlib.Core.Bool.{Bool, true, false}
 use mathlib.Core.Path.{_≡_, refl}
 use mathlib.Core.List.{List}
 use lib.ListN.{set}
-use lib.Dec.{eqb}
 use native.Mathlib.Nat.{not-suc-le-zero}
 use native.Mathlib.Numerals.{sub-one}
-use Rattle.words.specs.Choose.{eq-yes, eq-no, lt-yes, lt-no, pick-true, pick-false}
+use Rattle.words.specs.Choose.{eq-yes, eq-no, pick-true, pick-false}
 use Rattle.words.specs.Left.{Left, whole}
 use Rattle.layout.specs.Layout.{next, less, limit, dirty-length, dirty-stale, node-word, set-node-word}
 use Rattle.edits.specs.Edits.{finish-edit}
@@ -17,8 +16,11 @@ use Rattle.tried.specs.declared.Tried.the-variants.{Passed, Acted, Refused}
 use Rattle.visit.specs.Visits.{visit}
 use Rattle.run_slice.specs.Run.{leave, count-step, live-turn, entry-turn, turn, on-went, step-on, over, go-on, run, deduct}
 use Rattle.run_slice.specs.declared.Ran.{Ran}
+use Rattle.run_slice.specs.declared.Ran.the-variants.{Rested}
+use Rattle.run_slice.specs.declared.Ran.the-variants.{Refused as Ran·Refused}
 use Rattle.run_slice.specs.declared.Went.{Went}
-use Rattle.run_slice.specs.declared.Went.the-variants.{Go, Stop}
+use Rattle.run_slice.specs.declared.Went.the-variants.{Go, Rest}
+use Rattle.run_slice.specs.declared.Went.the-variants.{Refused as Went·Refused}
 
 pub live-passed : (ws w v x file sets : List ℕ) (n t : ℕ) (s : Tried) → t ≡ node-word ws n 0 → w ≡ set-node-word ws n 2 0 → s ≡ visit w file sets t n .is
     → v ≡ visit w file sets t n .ws → s ≡ Passed → x ≡ leave v t → record { is = Passed; ws = x } ≡ live-turn ws file sets n
@@ -56,24 +58,16 @@ unfolding step-on on-tried
 on-acted ws w file sets s s′ t et ew e es = rw (← et, e, ← ew, es)
 
 pub on-refused : (ws w file sets : List ℕ) (s r : ℕ) (t : Tried) → t ≡ turn ws file sets .is → w ≡ turn ws file sets .ws → t ≡ Refused r
-    → record { is = Stop r; ws = w } ≡ step-on ws file sets s
+    → record { is = Went·Refused r; ws = w } ≡ step-on ws file sets s
 unfolding step-on on-tried
 on-refused ws w file sets s r t et ew e = rw (← et, e, ← ew)
 
-pub over-slice : (ws : List ℕ) (most s : ℕ) → most ≤ s → true ≡ over ws most s
-unfolding over
-over-slice ws most s h = lt-no _ _ _ _ h refl
-
-pub over-limit : (ws : List ℕ) (most s l : ℕ) (b : Bool) → s < most → l ≡ limit ws → b ≡ eqb l 0 → b ≡ over ws most s
-unfolding over
-over-limit ws most s l b h el eb = lt-yes _ _ _ _ h (rw (eb, el))
-
-pub go-over : (ws file sets : List ℕ) (most s : ℕ) (b : Bool) → b ≡ over ws most s → b ≡ true → record { is = Stop 0; ws = ws } ≡ go-on ws file sets most s
+pub go-over : (ws file sets : List ℕ) (most s : ℕ) (b : Bool) → b ≡ over ws most s → b ≡ true → record { is = Rest; ws = ws } ≡ go-on ws file sets most s
 unfolding go-on
 go-over ws file sets most s b eb h = pick-true _ _ _ (rw (← eb) h) refl
 
 pub go-empty : (ws file sets : List ℕ) (most s d : ℕ) (b : Bool) → b ≡ over ws most s → b ≡ false → d ≡ dirty-length ws → d ≡ 0
-    → record { is = Stop 0; ws = ws } ≡ go-on ws file sets most s
+    → record { is = Rest; ws = ws } ≡ go-on ws file sets most s
 unfolding go-on
 go-empty ws file sets most s d b eb h ed z = pick-false _ _ _ (rw (← eb) h) (eq-yes _ _ _ _ (rw (← ed) z) refl)
 
@@ -89,13 +83,19 @@ unfolding run on-went
 run-more ws w file sets most s s′ zero g x e h eg ew p = absurd (not-suc-le-zero h)
 run-more ws w file sets most s s′ (suc k) g x e h eg ew p = rw (sub-one, ew) (rw (← eg, p) at e)
 
-pub run-stop : (ws w file sets : List ℕ) (most s r k : ℕ) (g : Went) (x : Left Ran) → run ws file sets most s k ≡ x → 0 < k → g ≡ go-on ws file sets most s .is
-    → w ≡ go-on ws file sets most s .ws → g ≡ Stop r → record { is = record { steps = s; refusal = r }; ws = w } ≡ x
+pub run-rests : (ws w file sets : List ℕ) (most s k : ℕ) (g : Went) (x : Left Ran) → run ws file sets most s k ≡ x → 0 < k → g ≡ go-on ws file sets most s .is
+    → w ≡ go-on ws file sets most s .ws → g ≡ Rest → record { is = Rested s; ws = w } ≡ x
 unfolding run on-went
-run-stop ws w file sets most s r zero g x e h eg ew p = absurd (not-suc-le-zero h)
-run-stop ws w file sets most s r (suc k) g x e h eg ew p = rw ew (rw (← eg, p) at e)
+run-rests ws w file sets most s zero g x e h eg ew p = absurd (not-suc-le-zero h)
+run-rests ws w file sets most s (suc k) g x e h eg ew p = rw ew (rw (← eg, p) at e)
 
-pub run-out : (ws file sets : List ℕ) (most s k : ℕ) (x : Left Ran) → run ws file sets most s k ≡ x → k ≤ 0 → record { is = record { steps = s; refusal = 0 }; ws = ws } ≡ x
+pub run-refused : (ws w file sets : List ℕ) (most s r k : ℕ) (g : Went) (x : Left Ran) → run ws file sets most s k ≡ x → 0 < k → g ≡ go-on ws file sets most s .is
+    → w ≡ go-on ws file sets most s .ws → g ≡ Went·Refused r → record { is = Ran·Refused s r; ws = w } ≡ x
+unfolding run on-went
+run-refused ws w file sets most s r zero g x e h eg ew p = absurd (not-suc-le-zero h)
+run-refused ws w file sets most s r (suc k) g x e h eg ew p = rw ew (rw (← eg, p) at e)
+
+pub run-out : (ws file sets : List ℕ) (most s k : ℕ) (x : Left Ran) → run ws file sets most s k ≡ x → k ≤ 0 → record { is = Rested s; ws = ws } ≡ x
 unfolding run
 run-out ws file sets most s zero x e h = e
 run-out ws file sets most s (suc k) x e h = absurd (not-suc-le-zero h)

@@ -5,10 +5,10 @@ use kinds::NetId;
 use kinds::NodeId;
 use tried::Tried;
 
-pub struct Ran {
-    pub steps: u32,
-    // 0, or the number by which the run is refused.
-    pub refusal: u32,
+// How a run ends, and after how many steps: it rests, or it is refused by a number.
+pub enum Ran {
+    Rested(u32),
+    Refused { steps: u32, number: u32 },
 }
 
 // The visit has ended: the node visited counts no more.
@@ -84,10 +84,11 @@ fn turn(ws: &mut [u32], file: &[u8], sets: &[u64]) -> Tried
     entry_turn(ws, file, sets, n)
 }
 
-// What a turn leads to: the steps taken so far; or the run stops, and by what it is refused, 0 where it rests.
+// What a turn leads to: the steps taken so far, where the run goes on; or it rests, or is refused by a number.
 pub enum Went {
     Go(u32),
-    Stop(u32),
+    Rest,
+    Refused(u32),
 }
 
 // A turn after s steps.
@@ -98,7 +99,7 @@ fn step_on(ws: &mut [u32], file: &[u8], sets: &[u64], s: u32) -> Went
     match tried {
         Tried::Passed => Went::Go(s),
         Tried::Acted => Went::Go(layout::next(s)),
-        Tried::Refused(r) => Went::Stop(r),
+        Tried::Refused(r) => Went::Refused(r),
     }
 }
 
@@ -117,10 +118,10 @@ fn go_on(ws: &mut [u32], file: &[u8], sets: &[u64], most: u32, s: u32) -> Went
     ensures { λ r. ⌜ (r ≡ go-on (now (ws .entry)) (now (file .entry)) (now (sets .entry)) most s .is) × (now (ws .exit) ≡ go-on (now (ws .entry)) (now (file .entry)) (now (sets .entry)) most s .ws) ⌝ }
 {
     if over(ws, most, s) {
-        return Went::Stop(0);
+        return Went::Rest;
     }
     if words::get(ws, layout::DIRTY_LENGTH) == 0 {
-        return Went::Stop(0);
+        return Went::Rest;
     }
     step_on(ws, file, sets, s)
 }
@@ -137,11 +138,12 @@ fn run(ws: &mut [u32], file: &[u8], sets: &[u64], most: u32, fuel: u64) -> Ran
             Went::Go(s) => {
                 steps = s;
             }
-            Went::Stop(r) => return Ran { steps, refusal: r },
+            Went::Rest => return Ran::Rested(steps),
+            Went::Refused(r) => return Ran::Refused { steps, number: r },
         }
         k -= 1;
     }
-    Ran { steps, refusal: 0 }
+    Ran::Rested(steps)
 }
 
 // A slice of n: the smaller of n and the limit left.

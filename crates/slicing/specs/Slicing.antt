@@ -5,6 +5,7 @@ use mathlib.Core.List.{List}
 use lib.ListN.{take}
 use lib.Dec.{leb}
 use Rattle.words.specs.Choose.{pick, if-eq}
+use Rattle.run_slice.specs.Run.{on-ran}
 use Rattle.run_slice.specs.Run.{slice as run-slice}
 use Rattle.image.specs.Image.{resumable}
 use Rattle.lent.specs.Lent.{Lent, room, held-length, zero-words, zero-bytes}
@@ -21,8 +22,7 @@ unfoldable pub run-held : Pools → ℕ → List ℕ → List ℕ → Lent
 run-held p n ws bs =
     let k = held-length ws bs in
     let r = run-slice ws (take k bs) n in
-    if-eq (r .is .refusal) 0 (record { is = Done (r .is .steps); ws = r .ws; bs = bs })
-    (record { is = Refused (r .is .refusal); ws = zero-words p (r .ws); bs = zero-bytes k bs })
+    on-ran (r .is) (λ s. record { is = Done s; ws = r .ws; bs = bs }) (λ n. record { is = Refused n; ws = zero-words p (r .ws); bs = zero-bytes k bs })
 
 -- 16, then 4
 unfoldable pub slice-image : Pools → ℕ → List ℕ → List ℕ → Lent

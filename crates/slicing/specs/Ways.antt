@@ -1,15 +1,15 @@
 -- What a function of the crate leaves on each way out, in the words of its tests and calls.
-use Prim.Native.Nat.{ℕ, _≤_}
+use Prim.Native.Nat.{ℕ}
 use mathlib.Core.Bool.{Bool, true, false}
-use mathlib.Core.Path.{_≡_, refl, sym}
+use mathlib.Core.Path.{_≡_, refl}
 use mathlib.Core.List.{List}
-use native.Mathlib.Omega.{arith}
-use lib.ListN.{length, take}
-use lib.Seq.{length-take-le}
-use Rattle.layout.specs.Layout.{file-length}
-use Rattle.words.specs.Choose.{eq-yes, eq-no, lt-split, pick-true, pick-false}
+use lib.ListN.{take}
+use Rattle.words.specs.Choose.{pick-true, pick-false}
+use Rattle.run_slice.specs.Run.{on-ran}
 use Rattle.run_slice.specs.Run.{slice as run-slice}
 use Rattle.run_slice.specs.declared.Ran.{Ran}
+use Rattle.run_slice.specs.declared.Ran.the-variants.{Rested}
+use Rattle.run_slice.specs.declared.Ran.the-variants.{Refused as Ran·Refused}
 use Rattle.image.specs.Image.{resumable}
 use Rattle.lent.specs.Lent.{Lent, together, room, held-length, zero-words, zero-bytes}
 use Rattle.lent.specs.declared.Pools.{Pools}
@@ -17,23 +17,16 @@ use Rattle.lent.specs.declared.Answer.{Answer}
 use Rattle.lent.specs.declared.Answer.the-variants.{Done, Refused}
 use Rattle.slicing.specs.Slicing.{steps-fit, run-held, slice-image, slice}
 
-pub held-fits : (ws bs : List ℕ) (k : ℕ) → k ≡ held-length ws bs → k ≤ length bs
-unfolding held-length
-held-fits ws bs k e = rw e (lt-split (file-length ws) (length bs) _ _ (λ (x : ℕ). x ≤ length bs) (λ h. omega arith) (λ h. omega arith))
+pub held-ran : (p : Pools) (n k s : ℕ) (ws w bs file : List ℕ) (r : Ran) → k ≡ held-length ws bs → file ≡ take k bs → r ≡ run-slice ws file n .is
+    → w ≡ run-slice ws file n .ws → r ≡ Rested s → record { is = Done s; ws = w; bs = bs } ≡ run-held p n ws bs
+unfolding run-held on-ran
+held-ran p n k s ws w bs file r ek ef er ew e = rw (← ek, ← ef, ← er, e, ew)
 
-pub held-part : (ws bs : List ℕ) (k : ℕ) → k ≡ held-length ws bs → k ≡ length (take k bs)
-held-part ws bs k e = sym (length-take-le _ _ (held-fits ws bs k e))
-
-pub held-ran : (p : Pools) (n k : ℕ) (ws w bs file : List ℕ) (r : Ran) → k ≡ held-length ws bs → file ≡ take k bs → r ≡ run-slice ws file n .is
-    → w ≡ run-slice ws file n .ws → r .refusal ≡ 0 → record { is = Done (r .steps); ws = w; bs = bs } ≡ run-held p n ws bs
-unfolding run-held
-held-ran p n k ws w bs file r ek ef er ew z = rw (← ek, ← ef) (eq-yes _ _ _ _ (rw (← er) z) (rw (ew, er)))
-
-pub held-refused : (p : Pools) (n k : ℕ) (ws w x bs b file : List ℕ) (r : Ran) → k ≡ held-length ws bs → file ≡ take k bs → r ≡ run-slice ws file n .is
-    → w ≡ run-slice ws file n .ws → (r .refusal ≡ 0 → ⊥) → x ≡ zero-words p w → b ≡ zero-bytes k bs
-    → record { is = Refused (r .refusal); ws = x; bs = b } ≡ run-held p n ws bs
-unfolding run-held
-held-refused p n k ws w x bs b file r ek ef er ew z ex eb = rw (← ek, ← ef) (eq-no _ _ _ _ (λ e. z (rw er e)) (rw (ex, eb, ew, er)))
+pub held-refused : (p : Pools) (n k s m : ℕ) (ws w x bs b file : List ℕ) (r : Ran) → k ≡ held-length ws bs → file ≡ take k bs → r ≡ run-slice ws file n .is
+    → w ≡ run-slice ws file n .ws → r ≡ Ran·Refused s m → x ≡ zero-words p w → b ≡ zero-bytes k bs
+    → record { is = Refused m; ws = x; bs = b } ≡ run-held p n ws bs
+unfolding run-held on-ran
+held-refused p n k s m ws w x bs b file r ek ef er ew e ex eb = rw (← ek, ← ef, ← er, e, ex, eb, ew)
 
 pub image-runs : (p : Pools) (n : ℕ) (ws w bs b : List ℕ) (t s : Bool) (a : Answer) → t ≡ resumable (p .nodes) (p .entries) (p .waits) ws bs → t ≡ true → s ≡ steps-fit n
     → s ≡ true → a ≡ run-held p n ws bs .is → w ≡ run-held p n ws bs .ws → b ≡ run-held p n ws bs .bs → record { is = a; ws = w; bs = b } ≡ slice-image p n ws bs

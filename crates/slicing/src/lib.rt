@@ -4,6 +4,7 @@ ghost use mathlib.Core.Path.{_≡_};
 ghost use Rattle.slicing.specs.Slicing.{steps-fit, run-held, slice-image, slice};
 use lent::Answer;
 use lent::Pools;
+use run_slice::Ran;
 
 // None, or at most 16,777,216.
 fn steps_fit(n: u32) -> bool
@@ -21,12 +22,13 @@ fn run_held(p: Pools, n: u32, ws: &mut [u32], bs: &mut [u8]) -> Answer
 {
     let k = lent::held_length(ws, bs);
     let ran = run_slice::slice(ws, &bs[..k], n);
-    let refusal = ran.refusal;
-    if refusal == 0 {
-        return Answer::Done(ran.steps);
+    match ran {
+        Ran::Rested(steps) => Answer::Done(steps),
+        Ran::Refused { steps: _, number } => {
+            lent::zero(p, ws, bs, k);
+            Answer::Refused(number)
+        }
     }
-    lent::zero(p, ws, bs, k);
-    Answer::Refused(refusal)
 }
 
 // Words that are long enough: 16, then 4.

@@ -7,3 +7,4 @@ pub mod Ready
 pub mod Tries
 pub mod Visiting
 pub mod Counting
+pub mod First

@@ -4,6 +4,7 @@ use mathlib.Core.Bool.{Bool, true, false}
 use mathlib.Core.Path.{_≡_, _∙_, refl, sym}
 use mathlib.Core.List.{List}
 use lib.Dec.{eqb}
+use native.Mathlib.Omega.{arith}
 use native.Mathlib.Nat.{not-suc-le-zero}
 use native.Mathlib.Numerals.{sub-one}
 use Rattle.words.specs.Choose.{pick, if-eq, eq-yes, eq-no, pick-true, pick-false}
@@ -96,6 +97,26 @@ pub tries-done : (ws file sets : List ℕ) (v : Visited) (rules r k : ℕ) (x : 
 unfolding tries
 tries-done ws file sets v rules r zero x e h = e
 tries-done ws file sets v rules r (suc k) x e h = absurd (not-suc-le-zero h)
+
+-- a path that no rewrite names
+pub rewrites-none : (ws file sets : List ℕ) (t n p u : ℕ) → u ≡ set-of sets p 3 → u ≡ 0 → record { is = Passed; ws = ws } ≡ rewrites ws file sets t n p
+unfolding rewrites
+rewrites-none ws file sets t n p u eu z = tries-none ws file sets (alone t n p) (set-of sets p 3) 0 64 _ refl (omega arith) (sym eu ∙ z)
+
+pub rewrites-passed : (ws w file sets : List ℕ) (t n p u : ℕ) (s : Tried) → u ≡ set-of sets p 3 → s ≡ tries ws file sets (alone t n p) u 0 64 .is
+    → w ≡ tries ws file sets (alone t n p) u 0 64 .ws → s ≡ Passed → record { is = Passed; ws = w } ≡ rewrites ws file sets t n p
+unfolding rewrites
+rewrites-passed ws w file sets t n p u s eu es ew e = rw (← eu, ← e) (whole (tries ws file sets (alone t n p) u 0 64) es ew)
+
+pub rewrites-acted : (ws w file sets : List ℕ) (t n p u : ℕ) (s : Tried) → u ≡ set-of sets p 3 → s ≡ tries ws file sets (alone t n p) u 0 64 .is
+    → w ≡ tries ws file sets (alone t n p) u 0 64 .ws → s ≡ Acted → record { is = Acted; ws = w } ≡ rewrites ws file sets t n p
+unfolding rewrites
+rewrites-acted ws w file sets t n p u s eu es ew e = rw (← eu, ← e) (whole (tries ws file sets (alone t n p) u 0 64) es ew)
+
+pub rewrites-refused : (ws w file sets : List ℕ) (t n p u r : ℕ) (s : Tried) → u ≡ set-of sets p 3 → s ≡ tries ws file sets (alone t n p) u 0 64 .is
+    → w ≡ tries ws file sets (alone t n p) u 0 64 .ws → s ≡ Refused r → record { is = Refused r; ws = w } ≡ rewrites ws file sets t n p
+unfolding rewrites
+rewrites-refused ws w file sets t n p u r s eu es ew e = rw (← eu, ← e) (whole (tries ws file sets (alone t n p) u 0 64) es ew)
 
 -- ---- the node
 

@@ -73,7 +73,16 @@ fn rewrites(ws: &mut [u32], file: &[u8], sets: &[u64], t: NetId, n: NodeId, p: u
         other: n,
         facing: p,
     };
-    tries(ws, file, sets, rule_sets::set_of(sets, p, 3), v)
+    let set = rule_sets::set_of(sets, p, 3);
+    if set == 0 {
+        return Tried::Passed;
+    }
+    let tried = tries(ws, file, sets, set, v);
+    match tried {
+        Tried::Passed => Tried::Passed,
+        Tried::Acted => Tried::Acted,
+        Tried::Refused(r) => Tried::Refused(r),
+    }
 }
 
 // Node n, of path p, meets node m with its principal port: the interactions, then the rewrites.

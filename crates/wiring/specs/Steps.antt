@@ -13,8 +13,8 @@ use Rattle.words.specs.Choose.{if-lt, lt-yes, lt-no}
 use Rattle.net_file.specs.Lists.{all}
 use Rattle.list_laws.specs.Lists.{all-append}
 use Rattle.fields.specs.Fields.{byte, be16}
-use Rattle.stored.specs.Stored.{tableAt, numbersAt, nameEnd, nodeEnd, pairAt, pairsAt}
-use Rattle.ends.specs.Ends.{within, on}
+use Rattle.stored.specs.Stored.{tableAt, numbersAt, listEnd, nameEnd, nodeEnd, pairAt, pairsAt}
+use Rattle.ends.specs.Ends.{within, on, node-is}
 use Rattle.ends.specs.Runs.{run, run-none, run-all}
 use Rattle.tally.specs.Tally.{tally, bump, tally-append}
 use Rattle.wiring.specs.Wiring.{twice, alike, pairRun, nodeWires, nodesWires, freeWires, netPairs, netNodes, netWired}
@@ -44,17 +44,17 @@ tally-done s counts base at (suc k) x g h = absurd (not-suc-le-zero h)
 
 -- ---- nodes
 
-pub node-tallied : (s counts c d : List ℕ) (base at e k t f : ℕ) → e ≡ within s (nameEnd s at) → c ≡ tally counts base (run s e 1) → t ≡ on s e 2 → k ≡ byte s t → f ≡ on s e 3
-    → d ≡ tally c base (run s f k) → d ≡ tally counts base (nodeWires s at)
-unfolding nodeWires
-node-tallied s counts c d base at e k t f ee ec et ek ef ed =
-    ed ∙ rw (ec, ef, ek, et, ee) (tally-append counts base (run s (within s (nameEnd s at)) 1) (run s (on s (within s (nameEnd s at)) 3) (byte s (on s (within s (nameEnd s at)) 2))))
+pub node-tallied : (s counts c d : List ℕ) (base e k t f : ℕ) → c ≡ tally counts base (run s e 1) → t ≡ on s e 2 → k ≡ byte s t → f ≡ on s e 3
+    → d ≡ tally c base (run s f k) → d ≡ tally counts base (run s e 1 ++ run s (on s e 3) (byte s (on s e 2)))
+node-tallied s counts c d base e k t f ec et ek ef ed = ed ∙ rw (ec, ef, ek, et) (tally-append counts base (run s e 1) (run s (on s e 3) (byte s (on s e 2))))
 
-pub nodes-more : (s counts c : List ℕ) (base at a k : ℕ) (x : List ℕ) → tally counts base (nodesWires s at k) ≡ x → 0 < k → c ≡ tally counts base (nodeWires s at) → a ≡ within s (nodeEnd s at)
-    → tally c base (nodesWires s a (k - 1)) ≡ x
-unfolding nodesWires
-nodes-more s counts c base at a zero x g h ec ea = absurd (not-suc-le-zero h)
-nodes-more s counts c base at a (suc k) x g h ec ea = rw (sub-one, ec, ea) (tally-append counts base (nodeWires s at) (nodesWires s (within s (nodeEnd s at)) k) ∙ g)
+pub nodes-more : (s counts c : List ℕ) (base at e a k : ℕ) (x : List ℕ) → tally counts base (nodesWires s at k) ≡ x → 0 < k → e ≡ within s (nameEnd s at)
+    → c ≡ tally counts base (run s e 1 ++ run s (on s e 3) (byte s (on s e 2))) → a ≡ within s (listEnd s (e + 2)) → tally c base (nodesWires s a (k - 1)) ≡ x
+unfolding nodesWires nodeWires
+nodes-more s counts c base at e a zero x g h ee ec ea = absurd (not-suc-le-zero h)
+nodes-more s counts c base at e a (suc k) x g h ee ec ea =
+    let w = run s (within s (nameEnd s at)) 1 ++ run s (on s (within s (nameEnd s at)) 3) (byte s (on s (within s (nameEnd s at)) 2)) in
+    rw (sub-one, ec, node-is s at e a ee ea, ee) (tally-append counts base w (nodesWires s (within s (nodeEnd s at)) k) ∙ g)
 
 pub nodes-done : (s counts : List ℕ) (base at k : ℕ) (x : List ℕ) → tally counts base (nodesWires s at k) ≡ x → k ≤ 0 → counts ≡ x
 unfolding nodesWires tally
@@ -92,33 +92,37 @@ module _ (s counts : List ℕ) (base at w c : ℕ) (x : Bool) where
 
 -- ---- nodes seen twice
 
-module _ (s counts : List ℕ) (base at e : ℕ) (ee : e ≡ within s (nameEnd s at)) (t : Bool) (et : t ≡ all (twice counts base) (run s e 1)) where
-  apart : all (twice counts base) (nodeWires s at) ≡ (t && all (twice counts base) (run s (on s e 3) (byte s (on s e 2))))
-  unfolding nodeWires
-  apart = rw (et, ee) (all-append (twice counts base) (run s (within s (nameEnd s at)) 1) (run s (on s (within s (nameEnd s at)) 3) (byte s (on s (within s (nameEnd s at)) 2))))
+module _ (s counts : List ℕ) (base e : ℕ) (t : Bool) (et : t ≡ all (twice counts base) (run s e 1)) where
+  apart : all (twice counts base) (run s e 1 ++ run s (on s e 3) (byte s (on s e 2))) ≡ (t && all (twice counts base) (run s (on s e 3) (byte s (on s e 2))))
+  apart = rw et (all-append (twice counts base) (run s e 1) (run s (on s e 3) (byte s (on s e 2))))
 
-  pub node-once : t ≡ false → false ≡ all (twice counts base) (nodeWires s at)
+  pub node-once : t ≡ false → false ≡ all (twice counts base) (run s e 1 ++ run s (on s e 3) (byte s (on s e 2)))
   node-once f = sym (apart ∙ ap (λ u. u && all (twice counts base) (run s (on s e 3) (byte s (on s e 2)))) f)
 
   pub node-twice : (r : Bool) (k p f : ℕ) → t ≡ true → p ≡ on s e 2 → k ≡ byte s p → f ≡ on s e 3 → r ≡ all (twice counts base) (run s f k)
-      → r ≡ all (twice counts base) (nodeWires s at)
+      → r ≡ all (twice counts base) (run s e 1 ++ run s (on s e 3) (byte s (on s e 2)))
   node-twice r k p f y ep ek ef er = er ∙ rw (ef, ek, ep) (sym (apart ∙ ap (λ u. u && all (twice counts base) (run s (on s e 3) (byte s (on s e 2)))) y))
 
-module _ (s counts : List ℕ) (base at : ℕ) (x t : Bool) (et : t ≡ all (twice counts base) (nodeWires s at)) where
-  pub nodes-twice-more : (a k : ℕ) → all (twice counts base) (nodesWires s at k) ≡ x → 0 < k → t ≡ true → a ≡ within s (nodeEnd s at)
+module _ (s counts : List ℕ) (base at e : ℕ) (x t : Bool) (ee : e ≡ within s (nameEnd s at))
+    (et : t ≡ all (twice counts base) (run s e 1 ++ run s (on s e 3) (byte s (on s e 2)))) where
+  wires-are : t ≡ all (twice counts base) (nodeWires s at)
+  unfolding nodeWires
+  wires-are = rw ee at et
+
+  pub nodes-twice-more : (a k : ℕ) → all (twice counts base) (nodesWires s at k) ≡ x → 0 < k → t ≡ true → a ≡ within s (listEnd s (e + 2))
       → all (twice counts base) (nodesWires s a (k - 1)) ≡ x
   unfolding nodesWires
   nodes-twice-more a zero g h y ea = absurd (not-suc-le-zero h)
   nodes-twice-more a (suc k) g h y ea =
-      rw (sub-one, ea) (sym (all-append (twice counts base) (nodeWires s at) (nodesWires s (within s (nodeEnd s at)) k)
-      ∙ ap (λ u. u && all (twice counts base) (nodesWires s (within s (nodeEnd s at)) k)) (sym et ∙ y)) ∙ g)
+      rw (sub-one, node-is s at e a ee ea) (sym (all-append (twice counts base) (nodeWires s at) (nodesWires s (within s (nodeEnd s at)) k)
+      ∙ ap (λ u. u && all (twice counts base) (nodesWires s (within s (nodeEnd s at)) k)) (sym wires-are ∙ y)) ∙ g)
 
   pub nodes-twice-no : (k : ℕ) → all (twice counts base) (nodesWires s at k) ≡ x → 0 < k → t ≡ false → false ≡ x
   unfolding nodesWires
   nodes-twice-no zero g h y = absurd (not-suc-le-zero h)
   nodes-twice-no (suc k) g h y =
       sym (all-append (twice counts base) (nodeWires s at) (nodesWires s (within s (nodeEnd s at)) k)
-      ∙ ap (λ u. u && all (twice counts base) (nodesWires s (within s (nodeEnd s at)) k)) (sym et ∙ y)) ∙ g
+      ∙ ap (λ u. u && all (twice counts base) (nodesWires s (within s (nodeEnd s at)) k)) (sym wires-are ∙ y)) ∙ g
 
 pub nodes-twice-done : (s counts : List ℕ) (base at k : ℕ) (x : Bool) → all (twice counts base) (nodesWires s at k) ≡ x → k ≤ 0 → true ≡ x
 unfolding nodesWires

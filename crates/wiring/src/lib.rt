@@ -1,10 +1,13 @@
 // Check 7 on flat nets: all wires of a net are tallied, those of its pairs too; then the two of a pair occur alike, and every
 // wire in a free or node place was seen twice: a wire in a pair once there and once in its pair, any other twice.
 ghost use mathlib.Core.Path.{_≡_};
+ghost use mathlib.Core.List.{_++_};
+ghost use Rattle.fields.specs.Fields.{byte};
+ghost use Rattle.ends.specs.Ends.{on};
 ghost use Rattle.net_file.specs.Lists.{all};
 ghost use Rattle.tally.specs.Tally.{tally};
 ghost use Rattle.ends.specs.Runs.{run};
-ghost use Rattle.wiring.specs.Wiring.{pairRun, nodeWires, nodesWires, freeWires, pairedWires, netPairs, netNodes, twice, alike, netTallied, netWired};
+ghost use Rattle.wiring.specs.Wiring.{pairRun, nodesWires, freeWires, pairedWires, netPairs, netNodes, twice, alike, netTallied, netWired};
 ghost use Rattle.wiring.specs.Fits.{fits};
 
 // n wires that stand one after another, where all are there.
@@ -27,11 +30,10 @@ pub fn tally_run(counts: &mut [u32], base: u16, s: &[u8], from: usize, n: u32)
     }
 }
 
-// A node's wires: the principal one, then the others.
-pub fn tally_node(counts: &mut [u32], base: u16, s: &[u8], at: usize)
-    ensures { λ _. ⌜ now (counts .exit) ≡ tally (now (counts .entry)) base (nodeWires (now (s .entry)) at) ⌝ }
+// A node's wires, where its name ends: the principal one, then the others.
+fn tally_node(counts: &mut [u32], base: u16, s: &[u8], e: usize)
+    ensures { λ _. ⌜ now (counts .exit) ≡ tally (now (counts .entry)) base (run (now (s .entry)) e 1 ++ run (now (s .entry)) (on (now (s .entry)) e 3) (byte (now (s .entry)) (on (now (s .entry)) e 2))) ⌝ }
 {
-    let e = ends::name_end(s, at);
     tally_run(counts, base, s, e, 1);
     let k = fields::byte(s, ends::on(s, e, 2));
     let from = ends::on(s, e, 3);
@@ -44,8 +46,9 @@ pub fn tally_nodes(counts: &mut [u32], base: u16, s: &[u8], from: usize, n: u32)
     let mut at = from;
     let mut k = n;
     while 0 < k {
-        tally_node(counts, base, s, at);
-        at = ends::node_end(s, at);
+        let e = ends::name_end(s, at);
+        tally_node(counts, base, s, e);
+        at = ends::wires_end(s, e);
         k -= 1;
     }
 }
@@ -109,10 +112,10 @@ pub fn twice_run(counts: &[u32], base: u16, s: &[u8], from: usize, n: u32) -> bo
     true
 }
 
-pub fn twice_node(counts: &[u32], base: u16, s: &[u8], at: usize) -> bool
-    ensures { λ r. ⌜ r ≡ all (twice (now (counts .entry)) base) (nodeWires (now (s .entry)) at) ⌝ }
+// Whether those of the node were whose name ends here.
+fn twice_node(counts: &[u32], base: u16, s: &[u8], e: usize) -> bool
+    ensures { λ r. ⌜ r ≡ all (twice (now (counts .entry)) base) (run (now (s .entry)) e 1 ++ run (now (s .entry)) (on (now (s .entry)) e 3) (byte (now (s .entry)) (on (now (s .entry)) e 2))) ⌝ }
 {
-    let e = ends::name_end(s, at);
     if twice_run(counts, base, s, e, 1) {
         let k = fields::byte(s, ends::on(s, e, 2));
         let from = ends::on(s, e, 3);
@@ -127,8 +130,9 @@ pub fn twice_nodes(counts: &[u32], base: u16, s: &[u8], from: usize, n: u32) -> 
     let mut at = from;
     let mut k = n;
     while 0 < k {
-        if twice_node(counts, base, s, at) {
-            at = ends::node_end(s, at);
+        let e = ends::name_end(s, at);
+        if twice_node(counts, base, s, e) {
+            at = ends::wires_end(s, e);
             k -= 1;
         } else {
             return false;

@@ -22,7 +22,7 @@ use Rattle.ends.specs.Ends.{within}
 use Rattle.tally.specs.Tally.{Low, blank-low}
 use Rattle.wiring.specs.Wiring.{netTallied}
 use Rattle.wiring.specs.Fits.{fits-cases}
-use Rattle.wiring_nets.specs.Nets.{netsFrom, netsWide, netsWired, wide-start, nets-start}
+use Rattle.wiring_nets.specs.Nets.{netsFrom, netsWide, netsWired, wide-start, nets-start, nets-zero, nets-suc}
 use Rattle.wiring_laws.specs.Inside.{Wires, net-reads}
 use Rattle.wiring_laws.specs.Net.{tallied-length, tallied-low, net-wired}
 
@@ -62,8 +62,8 @@ module _ (s : List ℕ) (paths names : ℕ) where
   nets-tell : (wide : ℕ → ℕ → Bool) (len : ℕ) → Tells wide len → (n i at : ℕ) (counts : List ℕ) (base : ℕ) (ns : List FlatNet) (r : List ℕ)
       → timesFrom (λ j. readFlatNet paths names) i n (drop at s) ≡ some (ns, r) → at ≤ length s → n ≤ 256 → Low counts base → length counts ≡ len → Ordered ns
       → netsFrom wide counts base s at n ≡ all flatWired ns
-  unfolding netsFrom timesFrom flatNetAt pick
-  nets-tell wide len tells zero i at counts base ns r e h v l el o = ap (all flatWired) (some-value e .0)
+  unfolding timesFrom flatNetAt pick
+  nets-tell wide len tells zero i at counts base ns r e h v l el o = nets-zero wide counts base s at ∙ ap (all flatWired) (some-value e .0)
   nets-tell wide len tells (suc n) i at counts base ns r e h v l el o =
       let d = split at i n ns r e h in
       let c = netTallied counts base s at in
@@ -74,8 +74,8 @@ module _ (s : List ℕ) (paths names : ℕ) where
       elim (fits-cases counts s at) [
         | inl y ↦
             let f = net-wired s counts base at l (flatNetAt s at) (y .1) paths names (drop (flatNetEnd s at) s) (d .read-one) h (p .0) in
-            rw (y .0, w, f, g) (pick-and (flatWired (flatNetAt s at)) (all flatWired (d .others)) ∙ ap (all flatWired) (sym (d .all-of)))
-        | inr y ↦ rw (y .0) (tells n i at ns r e h v o (omega (arith, el, y .1)))
+            rw (nets-suc, y .0, w, f, g) (pick-and (flatWired (flatNetAt s at)) (all flatWired (d .others)) ∙ ap (all flatWired) (sym (d .all-of)))
+        | inr y ↦ rw (nets-suc, y .0) (tells n i at ns r e h v o (omega (arith, el, y .1)))
       ]
 
   -- no net that is read has more than 65,536 wires

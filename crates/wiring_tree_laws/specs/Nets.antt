@@ -1,6 +1,6 @@
 -- Check 7 over all nets of trees of a file: `netsWired` tells whether each is well wired (`nets-wired`).
 use Prim.Native.Nat.{ℕ, zero, suc, _+_, _<_, _≤_}
-use mathlib.Core.Path.{_≡_, refl, sym, ap, _∙_}
+use mathlib.Core.Path.{_≡_, sym, ap, _∙_}
 use mathlib.Core.Bool.{Bool, true, false, _&&_}
 use mathlib.Core.Logic.{_⊎_, inl, inr}
 use mathlib.Core.Option.{some}
@@ -23,7 +23,7 @@ use Rattle.stored.specs.Pass.{pass}
 use Rattle.scan_tree_laws.specs.Net.{net-end}
 use Rattle.wiring.specs.Fits.{fits-cases}
 use Rattle.wiring_tree.specs.Wiring.{netTallied}
-use Rattle.wiring_tree_nets.specs.Nets.{netsFrom, netsWide, netsWired, wide-start, nets-start}
+use Rattle.wiring_tree_nets.specs.Nets.{netsFrom, netsWide, netsWired, wide-start, nets-start, nets-zero, nets-suc}
 use Rattle.wiring_tree_laws.specs.Inside.{net-reads}
 use Rattle.wiring_tree_laws.specs.Wired.{tree-wired, tree-low, tree-long}
 
@@ -40,8 +40,8 @@ module _ (s : List ℕ) (paths names : ℕ) where
   -- each net above the counts of the one before
   stored-wired : (wide : ℕ → ℕ → Bool) (len : ℕ) → Tells wide len → (n at : ℕ) (counts : List ℕ) (base : ℕ) (ns : List TreeNet) (r : List ℕ) → Low counts base
       → length counts ≡ len → at ≤ length s → times n (readTreeNet paths names) (drop at s) ≡ some (ns, r) → n ≤ 256 → netsFrom wide counts base s at n ≡ Says at n
-  unfolding netsFrom tableAt treeNetAt pick
-  stored-wired wide len tells zero at counts base ns r l el i h v = refl
+  unfolding tableAt treeNetAt pick
+  stored-wired wide len tells zero at counts base ns r l el i h v = nets-zero wide counts base s at
   stored-wired wide len tells (suc n) at counts base ns r l el i h v =
       let aNet = readTreeNet paths names in
       let b = pass (λ x. times n aNet >>= λ xs. give (x ∷ xs)) ns r (stands-tree-net s paths names at) i (rw times-suc at h) in
@@ -51,8 +51,8 @@ module _ (s : List ℕ) (paths names : ℕ) where
       elim (fits-cases counts s at) [
         | inl y ↦
             let f = tree-wired s counts base at l paths names (treeNetAt s at) _ (y .1) i (b .first) in
-            rw (y .0, f, net-end s paths names at (treeNetAt s at) _ i (b .first), rest) (pick-and (treeWired (treeNetAt s at)) _)
-        | inr y ↦ rw (y .0) (tells n at ns r i h v (omega (arith, el, y .1)))
+            rw (nets-suc, y .0, f, net-end s paths names at (treeNetAt s at) _ i (b .first), rest) (pick-and (treeWired (treeNetAt s at)) _)
+        | inr y ↦ rw (nets-suc, y .0) (tells n at ns r i h v (omega (arith, el, y .1)))
       ]
 
   -- no net that is read has more than 65,536 wires

@@ -24,8 +24,8 @@ cast-add c = search needs
 add-requires : tie.Need-add-requires Inv-loop μ-loop
 add-requires c κs = search needs
 
-flat-net-end-requires : tie.Need-flat-net-end-requires Inv-loop μ-loop
-flat-net-end-requires c κs = search needs
+next-net-requires : tie.Need-next-net-requires Inv-loop μ-loop
+next-net-requires c κs = search needs
 
 sub-k : tie.Need-sub-k Inv-loop μ-loop
 sub-k c = omega arith
@@ -49,7 +49,7 @@ nets-nodes-spec =
     net-nodes-requires
     cast-add
     add-requires
-    flat-net-end-requires
+    next-net-requires
     sub-k
     loop-less
     loop-again

@@ -6,6 +6,7 @@ use Rattle.finish.proofs.write_net.Statement.{statement}
 use Rattle.finish.proofs.write_net.Tie as tie
 use Rattle.finish.proofs.write_net.Reads as reads
 use Rattle.finish.proofs.write_net.Lts as lts
+use Rattle.ends.proofs.flat_net_end.Reads as flat-net-end-reads
 use Rattle.finish.proofs.write_included.Reads as write-included-reads
 use Rattle.layout.proofs.net_by_name.Reads as net-by-name-reads
 use Rattle.measure.proofs.span.Reads as span-reads
@@ -20,6 +21,10 @@ net-name-requires c κs = search needs
 -- src/lib.rt:78:9
 net-by-name-requires : tie.Need-net-by-name-requires
 net-by-name-requires c κs = search needs
+
+-- src/lib.rt:80:9
+flat-net-end-requires : tie.Need-flat-net-end-requires
+flat-net-end-requires c κs = search needs
 
 -- src/lib.rt:80:9
 copy-requires : tie.Need-copy-requires
@@ -67,6 +72,7 @@ write-net-spec =
     (tie.spec
     net-name-requires
     net-by-name-requires
+    flat-net-end-requires
     copy-requires
     span-requires
     on-requires

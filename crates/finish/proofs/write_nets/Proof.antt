@@ -9,7 +9,7 @@ use Rattle.finish.proofs.write_nets.Statement.{statement}
 use Rattle.finish.proofs.write_nets.Tie as tie
 use Rattle.finish.proofs.write_nets.Reads as reads
 use Rattle.finish.proofs.write_nets.Lts as lts
-use Rattle.ends.proofs.flat_net_end.Reads as flat-net-end-reads
+use Rattle.ends.proofs.next_net.Reads as next-net-reads
 use Rattle.finish.proofs.write_net.Reads as write-net-reads
 
 abbrev Inv-loop : tie.InvT-loop
@@ -22,13 +22,13 @@ abbrev μ-loop : tie.MeasureT-loop
 loop-holds : tie.Need-loop-holds Inv-loop μ-loop
 loop-holds c = (cc, search needs, search needs)
 
--- src/lib.rt:101:13
-flat-net-end-requires : tie.Need-flat-net-end-requires Inv-loop μ-loop
-flat-net-end-requires c κs = search needs
-
 -- src/lib.rt:102:9
 write-net-requires : tie.Need-write-net-requires Inv-loop μ-loop
 write-net-requires c κs = search needs
+
+-- src/lib.rt:101:13
+next-net-requires : tie.Need-next-net-requires Inv-loop μ-loop
+next-net-requires c κs = search needs
 
 -- src/lib.rt:104:9
 sub-left : tie.Need-sub-left Inv-loop μ-loop
@@ -61,8 +61,8 @@ write-nets-spec =
     Inv-loop
     μ-loop
     loop-holds
-    flat-net-end-requires
     write-net-requires
+    next-net-requires
     sub-left
     loop-less
     loop-again

@@ -1,4 +1,5 @@
-use Rattle.finishing.specs.Ways.{held-fits, held-part, delivered-done, delivered-refused}
+use Rattle.lent.specs.Lent.{held-fits, held-part}
+use Rattle.finishing.specs.Ways.{delivered-done, delivered-refused}
 use Rattle.finishing.specs.Finishing.{four}
 use Rattle.finishing.specs.Finishing as Spec
 use borrow.Author.Needs.{needs}

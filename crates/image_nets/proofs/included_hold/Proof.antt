@@ -21,8 +21,8 @@ after-net-requires c κs = search needs
 returns : tie.Need-returns Inv-loop μ-loop
 returns c = search included-no
 
-flat-net-end-requires : tie.Need-flat-net-end-requires Inv-loop μ-loop
-flat-net-end-requires c κs = search needs
+next-net-requires : tie.Need-next-net-requires Inv-loop μ-loop
+next-net-requires c κs = search needs
 
 sub-left : tie.Need-sub-left Inv-loop μ-loop
 sub-left c = omega arith
@@ -48,7 +48,7 @@ included-hold-spec =
     loop-holds
     after-net-requires
     returns
-    flat-net-end-requires
+    next-net-requires
     sub-left
     loop-less
     loop-again

@@ -14,8 +14,8 @@ each-net-holds-requires c κs = search needs
 pending-holds-requires : tie.Need-pending-holds-requires
 pending-holds-requires c κs = search needs
 
-free-hold-requires : tie.Need-free-hold-requires
-free-hold-requires c κs = search needs
+pool-holds-requires : tie.Need-pool-holds-requires
+pool-holds-requires c κs = search needs
 
 same-length : tie.Need-same-length
 same-length c = search needs
@@ -42,7 +42,7 @@ all-hold-spec =
     get-requires
     each-net-holds-requires
     pending-holds-requires
-    free-hold-requires
+    pool-holds-requires
     same-length
     returns
     same-length-2

@@ -11,11 +11,11 @@ get-requires c κs = search needs
 each-list-holds-requires : tie.Need-each-list-holds-requires
 each-list-holds-requires c κs = search needs
 
-entries-hold-requires : tie.Need-entries-hold-requires
-entries-hold-requires c κs = search needs
+pool-holds-requires : tie.Need-pool-holds-requires
+pool-holds-requires c κs = search needs
 
-slots-hold-requires : tie.Need-slots-hold-requires
-slots-hold-requires c κs = search needs
+pool-holds-requires-2 : tie.Need-pool-holds-requires-2
+pool-holds-requires-2 c κs = search needs
 
 same-length : tie.Need-same-length
 same-length c = search needs
@@ -41,8 +41,8 @@ all-hold-spec =
     (tie.spec
     get-requires
     each-list-holds-requires
-    entries-hold-requires
-    slots-hold-requires
+    pool-holds-requires
+    pool-holds-requires-2
     same-length
     returns
     same-length-2

@@ -18,11 +18,11 @@ Inv-loop out₀ from s at p₀ j₀ k₀ out p j k = Still (numbersText s at j k
 abbrev μ-loop : tie.MeasureT-loop
 μ-loop out₀ from s at p₀ j₀ k₀ out p j k = k
 
-byte-requires : tie.Need-byte-requires Inv-loop μ-loop
-byte-requires c κs = search needs
+list-count-requires : tie.Need-list-count-requires Inv-loop μ-loop
+list-count-requires c κs = search needs
 
 loop-holds : tie.Need-loop-holds Inv-loop μ-loop
-loop-holds c = (rw (c .byte .ensures, list-whole _ _) (still-all (omega arith) (omega arith)), search needs, omega arith)
+loop-holds c = (rw (c .list-count .ensures, list-whole _ _) (still-all (omega arith) (omega arith)), search needs, omega arith)
 
 cast-be16-on : tie.Need-cast-be16-on Inv-loop μ-loop
 cast-be16-on c = omega arith
@@ -66,7 +66,7 @@ list-spec =
     (tie.spec
     Inv-loop
     μ-loop
-    byte-requires
+    list-count-requires
     loop-holds
     cast-be16-on
     mul-be16-on

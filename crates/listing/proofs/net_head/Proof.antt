@@ -9,8 +9,8 @@ slice-aggregate-word c = search needs
 word-requires : tie.Need-word-requires
 word-requires c κs = search needs
 
-be16-requires : tie.Need-be16-requires
-be16-requires c κs = search needs
+net-name-requires : tie.Need-net-name-requires
+net-name-requires c κs = search needs
 
 cast-number : tie.Need-cast-number
 cast-number c = search needs
@@ -45,7 +45,7 @@ net-head-spec =
     (tie.spec
     slice-aggregate-word
     word-requires
-    be16-requires
+    net-name-requires
     cast-number
     number-requires
     slice-aggregate-word-2

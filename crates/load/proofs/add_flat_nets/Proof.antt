@@ -26,8 +26,8 @@ same-length c = omega arith
 returns : tie.Need-returns Inv-loop μ-loop
 returns c = left {x = add-flat-nets _ _ _ _} (search nets-refused)
 
-flat-net-end-requires : tie.Need-flat-net-end-requires Inv-loop μ-loop
-flat-net-end-requires c κs = search needs
+next-net-requires : tie.Need-next-net-requires Inv-loop μ-loop
+next-net-requires c κs = search needs
 
 sub-left : tie.Need-sub-left Inv-loop μ-loop
 sub-left c = omega arith
@@ -54,7 +54,7 @@ add-flat-nets-spec =
     add-if-included-requires
     same-length
     returns
-    flat-net-end-requires
+    next-net-requires
     sub-left
     loop-less
     loop-again

@@ -7,13 +7,8 @@ use Rattle.load.proofs.add_node.Tie as tie
 use Rattle.load.proofs.add_node.Reads as reads
 use Rattle.load.proofs.add_node.Lts as lts
 use Rattle.edits.proofs.insert_node.Reads as insert-node-reads
-use Rattle.ends.proofs.name_end.Reads as name-end-reads
 use Rattle.load.proofs.join_node.Reads as join-node-reads
 use Rattle.readers.proofs.byte_on.Reads as byte-on-reads
-
--- src/lib.rt:32:9
-name-end-requires : tie.Need-name-end-requires
-name-end-requires c κs = search needs
 
 -- src/lib.rt:33:13
 byte-on-requires : tie.Need-byte-on-requires
@@ -71,7 +66,6 @@ pub add-node-spec : {M : Type 1} → statement M
 add-node-spec =
     tie.close
     (tie.spec
-    name-end-requires
     byte-on-requires
     cast-k
     cast-insert-node

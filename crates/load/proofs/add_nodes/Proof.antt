@@ -9,7 +9,7 @@ use Rattle.load.proofs.add_nodes.Statement.{statement}
 use Rattle.load.proofs.add_nodes.Tie as tie
 use Rattle.load.proofs.add_nodes.Reads as reads
 use Rattle.load.proofs.add_nodes.Lts as lts
-use Rattle.ends.proofs.node_end.Reads as node-end-reads
+use Rattle.ends.proofs.name_end.Reads as name-end-reads
 use Rattle.load.proofs.add_node.Reads as add-node-reads
 
 abbrev Inv-loop : tie.InvT-loop
@@ -21,6 +21,12 @@ abbrev μ-loop : tie.MeasureT-loop
 -- src/lib.rt:57:5
 loop-holds : tie.Need-loop-holds Inv-loop μ-loop
 loop-holds c = (cc, search needs, search needs)
+
+name-end-requires : tie.Need-name-end-requires Inv-loop μ-loop
+name-end-requires c κs = search needs
+
+wires-end-requires : tie.Need-wires-end-requires Inv-loop μ-loop
+wires-end-requires c κs = search needs
 
 -- src/lib.rt:58:13
 add-node-requires : tie.Need-add-node-requires Inv-loop μ-loop
@@ -37,10 +43,6 @@ same-length-2 c = omega arith
 -- src/lib.rt:60:13
 returns : tie.Need-returns Inv-loop μ-loop
 returns c = added {x = add-nodes _ _ _ _ _ _} (search nodes-refused)
-
--- src/lib.rt:62:9
-node-end-requires : tie.Need-node-end-requires Inv-loop μ-loop
-node-end-requires c κs = search needs
 
 -- src/lib.rt:63:9
 sub-left : tie.Need-sub-left Inv-loop μ-loop
@@ -73,11 +75,12 @@ add-nodes-spec =
     Inv-loop
     μ-loop
     loop-holds
+    name-end-requires
+    wires-end-requires
     add-node-requires
     same-length
     same-length-2
     returns
-    node-end-requires
     sub-left
     loop-less
     loop-again

@@ -7,7 +7,7 @@ use Rattle.measure.proofs.nets_size.Statement.{statement}
 use Rattle.measure.proofs.nets_size.Tie as tie
 use Rattle.measure.proofs.nets_size.Reads as reads
 use Rattle.measure.proofs.nets_size.Lts as lts
-use Rattle.ends.proofs.flat_net_end.Reads as flat-net-end-reads
+use Rattle.ends.proofs.next_net.Reads as next-net-reads
 use Rattle.measure.proofs.with_net.Reads as with-net-reads
 
 abbrev Inv-loop : tie.InvT-loop
@@ -20,13 +20,13 @@ abbrev μ-loop : tie.MeasureT-loop
 loop-holds : tie.Need-loop-holds Inv-loop μ-loop
 loop-holds c = cc
 
--- src/lib.rt:82:13
-flat-net-end-requires : tie.Need-flat-net-end-requires Inv-loop μ-loop
-flat-net-end-requires c κs = search needs
-
 -- src/lib.rt:83:9
 with-net-requires : tie.Need-with-net-requires Inv-loop μ-loop
 with-net-requires c κs = search needs
+
+-- src/lib.rt:82:13
+next-net-requires : tie.Need-next-net-requires Inv-loop μ-loop
+next-net-requires c κs = search needs
 
 -- src/lib.rt:85:9
 sub-left : tie.Need-sub-left Inv-loop μ-loop
@@ -51,8 +51,8 @@ nets-size-spec =
     Inv-loop
     μ-loop
     loop-holds
-    flat-net-end-requires
     with-net-requires
+    next-net-requires
     sub-left
     loop-less
     loop-again

@@ -4,6 +4,7 @@ use Rattle.measure.proofs.with_net.Statement.{statement}
 use Rattle.measure.proofs.with_net.Tie as tie
 use Rattle.measure.proofs.with_net.Reads as reads
 use Rattle.measure.proofs.with_net.Lts as lts
+use Rattle.ends.proofs.flat_net_end.Reads as flat-net-end-reads
 use Rattle.measure.proofs.plus.Reads as plus-reads
 use Rattle.measure.proofs.span.Reads as span-reads
 use Rattle.net_readers.proofs.free_count.Reads as free-count-reads
@@ -47,6 +48,10 @@ cast-plus-2 : tie.Need-cast-plus-2
 cast-plus-2 c = search needs
 
 -- src/lib.rt:80:9
+flat-net-end-requires : tie.Need-flat-net-end-requires
+flat-net-end-requires c κs = search needs
+
+-- src/lib.rt:80:9
 span-requires : tie.Need-span-requires
 span-requires c κs = search needs
 
@@ -71,6 +76,7 @@ with-net-spec =
     returns
     node-count-requires
     cast-plus-2
+    flat-net-end-requires
     span-requires
     plus-requires-2
     returns-2)

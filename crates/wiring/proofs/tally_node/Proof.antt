@@ -3,9 +3,6 @@ use borrow.Author.Needs.{needs}
 use Rattle.wiring.proofs.tally_node.Statement.{statement}
 use Rattle.wiring.proofs.tally_node.Tie as tie
 
-name-end-requires : tie.Need-name-end-requires
-name-end-requires c κs = search needs
-
 tally-run-requires : tie.Need-tally-run-requires
 tally-run-requires c κs = search needs
 
@@ -34,7 +31,6 @@ pub tally-node-spec : {M : Type 1} → statement M
 tally-node-spec =
     tie.close
     (tie.spec
-    name-end-requires
     tally-run-requires
     on-requires
     byte-requires

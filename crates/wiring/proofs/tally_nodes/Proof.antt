@@ -17,11 +17,14 @@ abbrev μ-loop : tie.MeasureT-loop
 loop-holds : tie.Need-loop-holds Inv-loop μ-loop
 loop-holds c = (search needs, search needs)
 
+name-end-requires : tie.Need-name-end-requires Inv-loop μ-loop
+name-end-requires c κs = search needs
+
 tally-node-requires : tie.Need-tally-node-requires Inv-loop μ-loop
 tally-node-requires c κs = search needs
 
-node-end-requires : tie.Need-node-end-requires Inv-loop μ-loop
-node-end-requires c κs = search needs
+wires-end-requires : tie.Need-wires-end-requires Inv-loop μ-loop
+wires-end-requires c κs = search needs
 
 sub-k : tie.Need-sub-k Inv-loop μ-loop
 sub-k c = omega arith
@@ -45,8 +48,9 @@ tally-nodes-spec =
     Inv-loop
     μ-loop
     loop-holds
+    name-end-requires
     tally-node-requires
-    node-end-requires
+    wires-end-requires
     sub-k
     loop-less
     loop-again

@@ -3,9 +3,6 @@ use borrow.Author.Needs.{needs}
 use Rattle.wiring.proofs.twice_node.Statement.{statement}
 use Rattle.wiring.proofs.twice_node.Tie as tie
 
-name-end-requires : tie.Need-name-end-requires
-name-end-requires c κs = search needs
-
 twice-run-requires : tie.Need-twice-run-requires
 twice-run-requires c κs = search needs
 
@@ -34,7 +31,6 @@ pub twice-node-spec : {M : Type 1} → statement M
 twice-node-spec =
     tie.close
     (tie.spec
-    name-end-requires
     twice-run-requires
     on-requires
     byte-requires

@@ -16,11 +16,14 @@ abbrev μ-loop : tie.MeasureT-loop
 loop-holds : tie.Need-loop-holds Inv-loop μ-loop
 loop-holds c = search needs
 
+name-end-requires : tie.Need-name-end-requires Inv-loop μ-loop
+name-end-requires c κs = search needs
+
 twice-node-requires : tie.Need-twice-node-requires Inv-loop μ-loop
 twice-node-requires c κs = search needs
 
-node-end-requires : tie.Need-node-end-requires Inv-loop μ-loop
-node-end-requires c κs = search needs
+wires-end-requires : tie.Need-wires-end-requires Inv-loop μ-loop
+wires-end-requires c κs = search needs
 
 sub-k : tie.Need-sub-k Inv-loop μ-loop
 sub-k c = omega arith
@@ -44,8 +47,9 @@ twice-nodes-spec =
     Inv-loop
     μ-loop
     loop-holds
+    name-end-requires
     twice-node-requires
-    node-end-requires
+    wires-end-requires
     sub-k
     loop-less
     loop-again

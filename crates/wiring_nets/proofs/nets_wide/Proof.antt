@@ -1,90 +1,57 @@
-use Rattle.wiring_nets.specs.Nets.{netsFrom, netsWide, wide-over, wide-start, nets-more, nets-no, nets-unfit, nets-done}
-use lib.ListN.{length}
-use mathlib.Core.Path.{_≡_, refl}
-use mathlib.Core.Bool.{false}
-use Prim.Native.Nat.{_+_, _*_, _≤_}
+use Rattle.wiring_nets.specs.Nets as Spec
 use borrow.Author.Needs.{needs}
-use native.Mathlib.Omega.{arith}
 use Rattle.wiring_nets.proofs.nets_wide.Statement.{statement}
 use Rattle.wiring_nets.proofs.nets_wide.Tie as tie
+use Rattle.wiring_nets.proofs.nets_wide.Reads as reads
+use Rattle.wiring_nets.proofs.nets_wide.Lts as lts
+use Rattle.wiring_nets.proofs.nets_told.Reads as nets-told-reads
 
-abbrev Inv-loop : tie.InvT-loop
-Inv-loop s from n counts₀ at₀ base₀ k₀ counts at base k = (netsFrom (λ a k. false) counts base s at k ≡ netsWide s from n) × (length counts ≡ 65536) × (base + 4 * k ≤ 1024)
+-- src/lib.rt:44:9
+returns : tie.Need-returns
+returns c = search Spec.wide-over
 
-abbrev μ-loop : tie.MeasureT-loop
-μ-loop s from n counts₀ at₀ base₀ k₀ counts at base k = k
+-- src/lib.rt:47:26
+slice-aggregate-nets-told : tie.Need-slice-aggregate-nets-told
+slice-aggregate-nets-told c = search needs
 
-returns : tie.Need-returns Inv-loop μ-loop
-returns c = wide-over _ _ _ (c .if1 .taken)
+-- src/lib.rt:47:9
+nets-told-requires : tie.Need-nets-told-requires
+nets-told-requires c κs = search needs
 
-loop-holds : tie.Need-loop-holds Inv-loop μ-loop
-loop-holds c = (wide-start _ _ _ (omega arith), search needs, omega arith)
+-- src/lib.rt:49:24
+enum-told : tie.Need-enum-told
+enum-told c = search needs
 
-slice-aggregate-fits : tie.Need-slice-aggregate-fits Inv-loop μ-loop
-slice-aggregate-fits c = search needs
+-- src/lib.rt:50:22
+enum-told-2 : tie.Need-enum-told-2
+enum-told-2 c = search needs
 
-fits-requires : tie.Need-fits-requires Inv-loop μ-loop
-fits-requires c κs = search needs
+-- src/lib.rt:51:29
+enum-told-3 : tie.Need-enum-told-3
+enum-told-3 c = search needs
 
-slice-aggregate-tally-net : tie.Need-slice-aggregate-tally-net Inv-loop μ-loop
-slice-aggregate-tally-net c = search needs
+-- src/lib.rt:40:1
+returns-2 : tie.Need-returns-2
+returns-2 c = search Spec.wide-wired
 
-tally-net-requires : tie.Need-tally-net-requires Inv-loop μ-loop
-tally-net-requires c κs = search needs
+-- src/lib.rt:40:1
+returns-3 : tie.Need-returns-3
+returns-3 c = search Spec.wide-not
 
-slice-aggregate-net-wired : tie.Need-slice-aggregate-net-wired Inv-loop μ-loop
-slice-aggregate-net-wired c = search needs
-
-net-wired-requires : tie.Need-net-wired-requires Inv-loop μ-loop
-net-wired-requires c κs = search needs
-
-flat-net-end-requires : tie.Need-flat-net-end-requires Inv-loop μ-loop
-flat-net-end-requires c κs = search needs
-
-add-base : tie.Need-add-base Inv-loop μ-loop
-add-base c = omega arith
-
-sub-k : tie.Need-sub-k Inv-loop μ-loop
-sub-k c = omega arith
-
-loop-less : tie.Need-loop-less Inv-loop μ-loop
-loop-less c = omega arith
-
-loop-again : tie.Need-loop-again Inv-loop μ-loop
-loop-again c =
-    let t = c .before .before .before .before .before in
-    let q = t .before .before .before in
-    let l = q .before .before .before .loop in
-    (nets-more _ _ _ _ _ _ _ (q .fits2 .ensures) _ _ (t .before .before .if2 .taken) (t .tally-net .ensures) (c .before .before .net-wired .ensures) _ (l .k) (l .inv .0) (omega arith) (c .before .if3 .taken) (c .flat-net-end .ensures), omega arith, omega arith)
-
-returns-2 : tie.Need-returns-2 Inv-loop μ-loop
-returns-2 c = search nets-no
-
-returns-3 : tie.Need-returns-3 Inv-loop μ-loop
-returns-3 c = search nets-unfit
-
-returns-4 : tie.Need-returns-4 Inv-loop μ-loop
-returns-4 c = search nets-done
+-- src/lib.rt:40:1
+returns-4 : tie.Need-returns-4
+returns-4 c = search Spec.wide-wide
 
 pub nets-wide-spec : {M : Type 1} → statement M
 nets-wide-spec =
     tie.close
     (tie.spec
-    Inv-loop
-    μ-loop
     returns
-    loop-holds
-    slice-aggregate-fits
-    fits-requires
-    slice-aggregate-tally-net
-    tally-net-requires
-    slice-aggregate-net-wired
-    net-wired-requires
-    flat-net-end-requires
-    add-base
-    sub-k
-    loop-less
-    loop-again
+    slice-aggregate-nets-told
+    nets-told-requires
+    enum-told
+    enum-told-2
+    enum-told-3
     returns-2
     returns-3
     returns-4)

@@ -1,85 +1,63 @@
-use Rattle.wiring_tree_nets.specs.Nets.{netsFrom, netsWide, netsWired, nets-over, nets-start, nets-more, nets-no, nets-unfit, nets-done}
-use lib.ListN.{length}
-use mathlib.Core.Path.{_≡_}
-use Prim.Native.Nat.{_+_, _*_, _≤_}
+use Rattle.wiring_tree_nets.specs.Nets as Spec
 use borrow.Author.Needs.{needs}
-use native.Mathlib.Omega.{arith}
 use Rattle.wiring_tree_nets.proofs.nets_wired.Statement.{statement}
 use Rattle.wiring_tree_nets.proofs.nets_wired.Tie as tie
+use Rattle.wiring_tree_nets.proofs.nets_wired.Reads as reads
+use Rattle.wiring_tree_nets.proofs.nets_wired.Lts as lts
+use Rattle.wiring_tree_nets.proofs.nets_told.Reads as nets-told-reads
+use Rattle.wiring_tree_nets.proofs.nets_wide.Reads as nets-wide-reads
 
-abbrev Inv-loop : tie.InvT-loop
-Inv-loop s from n counts₀ at₀ base₀ k₀ counts at base k = (netsFrom (netsWide s) counts base s at k ≡ netsWired s from n) × (length counts ≡ 1024) × (base + 4 * k ≤ 1024)
+-- src/lib.rt:60:9
+returns : tie.Need-returns
+returns c = search Spec.nets-over
 
-abbrev μ-loop : tie.MeasureT-loop
-μ-loop s from n counts₀ at₀ base₀ k₀ counts at base k = k
+-- src/lib.rt:63:26
+slice-aggregate-nets-told : tie.Need-slice-aggregate-nets-told
+slice-aggregate-nets-told c = search needs
 
-returns : tie.Need-returns Inv-loop μ-loop
-returns c = nets-over _ _ _ (c .if1 .taken)
+-- src/lib.rt:63:9
+nets-told-requires : tie.Need-nets-told-requires
+nets-told-requires c κs = search needs
 
-loop-holds : tie.Need-loop-holds Inv-loop μ-loop
-loop-holds c = (nets-start _ _ _ (omega arith), search needs, omega arith)
+-- src/lib.rt:65:24
+enum-told : tie.Need-enum-told
+enum-told c = search needs
 
-slice-aggregate-fits : tie.Need-slice-aggregate-fits Inv-loop μ-loop
-slice-aggregate-fits c = search needs
+-- src/lib.rt:66:22
+enum-told-2 : tie.Need-enum-told-2
+enum-told-2 c = search needs
 
-fits-requires : tie.Need-fits-requires Inv-loop μ-loop
-fits-requires c κs = search needs
+-- src/lib.rt:67:20
+enum-known-told : tie.Need-enum-known-told
+enum-known-told c = search needs
 
-slice-aggregate-tally-net : tie.Need-slice-aggregate-tally-net Inv-loop μ-loop
-slice-aggregate-tally-net c = search needs
-
-tally-net-requires : tie.Need-tally-net-requires Inv-loop μ-loop
-tally-net-requires c κs = search needs
-
-slice-aggregate-net-wired : tie.Need-slice-aggregate-net-wired Inv-loop μ-loop
-slice-aggregate-net-wired c = search needs
-
-net-wired-requires : tie.Need-net-wired-requires Inv-loop μ-loop
-net-wired-requires c κs = search needs
-
-add-base : tie.Need-add-base Inv-loop μ-loop
-add-base c = omega arith
-
-sub-k : tie.Need-sub-k Inv-loop μ-loop
-sub-k c = omega arith
-
-loop-less : tie.Need-loop-less Inv-loop μ-loop
-loop-less c = omega arith
-
-loop-again : tie.Need-loop-again Inv-loop μ-loop
-loop-again c = (search nets-more, omega arith, omega arith)
-
-returns-2 : tie.Need-returns-2 Inv-loop μ-loop
-returns-2 c = search nets-no
-
-nets-wide-requires : tie.Need-nets-wide-requires Inv-loop μ-loop
+-- src/lib.rt:67:30
+nets-wide-requires : tie.Need-nets-wide-requires
 nets-wide-requires c κs = search needs
 
-returns-3 : tie.Need-returns-3 Inv-loop μ-loop
-returns-3 c = search nets-unfit
+-- src/lib.rt:56:1
+returns-2 : tie.Need-returns-2
+returns-2 c = search Spec.nets-wired
 
-returns-4 : tie.Need-returns-4 Inv-loop μ-loop
-returns-4 c = search nets-done
+-- src/lib.rt:56:1
+returns-3 : tie.Need-returns-3
+returns-3 c = search Spec.nets-not
+
+-- src/lib.rt:56:1
+returns-4 : tie.Need-returns-4
+returns-4 c = search Spec.nets-wide
 
 pub nets-wired-spec : {M : Type 1} → statement M
 nets-wired-spec =
     tie.close
     (tie.spec
-    Inv-loop
-    μ-loop
     returns
-    loop-holds
-    slice-aggregate-fits
-    fits-requires
-    slice-aggregate-tally-net
-    tally-net-requires
-    slice-aggregate-net-wired
-    net-wired-requires
-    add-base
-    sub-k
-    loop-less
-    loop-again
-    returns-2
+    slice-aggregate-nets-told
+    nets-told-requires
+    enum-told
+    enum-told-2
+    enum-known-told
     nets-wide-requires
+    returns-2
     returns-3
     returns-4)

@@ -1,0 +1,3 @@
+pub mod Seg
+pub mod Pools
+pub mod Moves

@@ -1,0 +1,1 @@
+// Chains of places that mean lists: laws only, in specs/.

@@ -1,0 +1,13 @@
+pub mod Back
+pub mod SameWire
+pub mod Counts
+pub mod Accepted
+pub mod ToTree
+pub mod Pairs
+pub mod Resolved
+pub mod Get
+pub mod Ends
+pub mod PairsOf
+pub mod Embed
+pub mod EmbedFits
+pub mod ToFlat

@@ -1,0 +1,1 @@
+// Laws of the conversions. Laws only, in specs/.

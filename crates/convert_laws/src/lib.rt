@@ -1,0 +1,1 @@
+// Laws of the conversions: definitions and laws only, in specs/.

@@ -1,0 +1,4 @@
+pub mod Fill
+pub mod Place
+pub mod Vacate
+pub mod Went

@@ -1,0 +1,1 @@
+// Nodes put in and taken out on the words are those of level Engine. Laws only, in specs/.

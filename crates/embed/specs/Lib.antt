@@ -1,0 +1,2 @@
+pub mod Embed
+pub mod Ways

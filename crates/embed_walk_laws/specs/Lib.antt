@@ -1,0 +1,4 @@
+pub mod Sizes
+pub mod Walked
+pub mod Sets
+pub mod Written

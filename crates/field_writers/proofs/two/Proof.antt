@@ -1,0 +1,26 @@
+use Rattle.field_writers.specs.Fields.{two-is}
+use borrow.Author.Needs.{needs}
+use Rattle.field_writers.proofs.two.Statement.{statement}
+use Rattle.field_writers.proofs.two.Tie as tie
+
+cast-byte : tie.Need-cast-byte
+cast-byte c = search needs
+
+byte-requires : tie.Need-byte-requires
+byte-requires c κs = search needs
+
+cast-byte-2 : tie.Need-cast-byte-2
+cast-byte-2 c = search needs
+
+byte-requires-2 : tie.Need-byte-requires-2
+byte-requires-2 c κs = search needs
+
+same-length : tie.Need-same-length
+same-length c = search needs
+
+returns : tie.Need-returns
+returns c = search two-is
+
+pub two-spec : {M : Type 1} → statement M
+two-spec =
+    tie.close (tie.spec cast-byte byte-requires cast-byte-2 byte-requires-2 same-length returns)

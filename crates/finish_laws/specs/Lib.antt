@@ -1,0 +1,6 @@
+pub mod Firsts
+pub mod Wires
+pub mod Drawn
+pub mod Twice
+pub mod Fits
+pub mod One

@@ -1,0 +1,156 @@
+// Tree nets of a file as flat nets: each is measured, and then written. `to_flat` of net.rs, net by net.
+ghost use mathlib.Core.Path.{_≡_};
+ghost use lib.Dec.{eqb};
+ghost use Prim.Native.Nat.{_+_};
+ghost use Rattle.net_file.specs.Lists.{bit};
+ghost use Rattle.fields.specs.Fields.{byte};
+ghost use Rattle.flat_nets.specs.Flat.{measured, linked, size, summed, summedAll, linkedAll, headWritten, beforePlace, beforeWritten, netSpot, netWords, netOut, netsSpot, netsWords, netsOut};
+ghost use Rattle.wire_links.specs.Table.{on};
+
+// ---- measured
+
+// What a net takes as a flat one: the place after it in the file, its wire counter, its nodes, its pairs, and its nodes' bytes.
+pub struct Measured {
+    pub end: usize,
+    pub wires: u32,
+    pub nodes: u32,
+    pub pairs: u32,
+    pub bytes: usize,
+}
+
+// The net at a place. Its links are in the table then.
+fn measure_net(s: &[u8], ws: &mut [u32], at: usize) -> Measured
+    ensures { λ r. ⌜ (r ≡ measured (now (s .entry)) (now (ws .entry)) at) × (now (ws .exit) ≡ linked (now (s .entry)) (now (ws .entry)) at) ⌝ }
+{
+    let mut none = [0u8; 1];
+    clear::clear_words(ws, 65536);
+    let g = embed_nets::embed_net(s, ws, &mut none, at, 0, 0);
+    let pairs = wire_links::count_pairs(ws, g.wires);
+    Measured {
+        end: g.at,
+        wires: g.wires,
+        nodes: g.nodes,
+        pairs: pairs,
+        bytes: g.to,
+    }
+}
+
+// How many bytes it takes.
+fn size(s: &[u8], at: usize, m: Measured) -> usize
+    ensures { λ r. ⌜ r ≡ size (now (s .entry)) at m ⌝ }
+{
+    let k = readers::byte_on(s, at, 7);
+    let links = 4 * (m.pairs as usize);
+    wire_links::on(m.bytes, 12 + 2 * (k as usize) + links)
+}
+
+// Nets so far: the place of the next, the greatest counter among them, the place after them in the output.
+pub struct Total {
+    pub at: usize,
+    pub wires: u32,
+    pub to: usize,
+}
+
+// One net more.
+fn sum(s: &[u8], ws: &mut [u32], t: Total) -> Total
+    ensures { λ r. ⌜ (r ≡ summed (now (s .entry)) (now (ws .entry)) t) × (now (ws .exit) ≡ linked (now (s .entry)) (now (ws .entry)) (t .at)) ⌝ }
+{
+    let m = measure_net(s, ws, t.at);
+    let to = wire_links::on(t.to, size(s, t.at, m));
+    if t.wires < m.wires {
+        return Total {
+            at: m.end,
+            wires: m.wires,
+            to: to,
+        };
+    }
+    Total {
+        at: m.end,
+        wires: t.wires,
+        to: to,
+    }
+}
+
+// n nets, one after another.
+pub fn measure_nets(s: &[u8], ws: &mut [u32], from: usize, n: u32, to: usize) -> Total
+    ensures { λ r. ⌜ (r ≡ summedAll (now (s .entry)) (now (ws .entry)) (record { at = from; wires = 0; to = to }) n) × (now (ws .exit) ≡ linkedAll (now (s .entry)) (now (ws .entry)) (record { at = from; wires = 0; to = to }) n) ⌝ }
+{
+    let mut t = Total {
+        at: from,
+        wires: 0,
+        to: to,
+    };
+    let mut left = n;
+    while 0 < left {
+        t = sum(s, ws, t);
+        left -= 1;
+    }
+    t
+}
+
+// ---- written
+
+// The included mark of the net at a place: 1 for 1, else 0.
+fn mark(s: &[u8], at: usize) -> u8
+    ensures { λ r. ⌜ r ≡ bit (eqb (byte (now (s .entry)) (at + 2)) 1) ⌝ }
+{
+    if readers::byte_on(s, at, 2) == 1 {
+        return 1;
+    }
+    0
+}
+
+// Name, included mark, wire counter and how many free wires there are; the place of these.
+fn write_head(s: &[u8], out: &mut [u8], at: usize, to: usize, wires: u32) -> usize
+    ensures { λ r. ⌜ (r ≡ on to 8) × (now (out .exit) ≡ headWritten (now (s .entry)) at to wires (now (out .entry))) ⌝ }
+{
+    let p = field_writers::two(out, to, fields::be16(s, at));
+    let q = field_writers::one(out, p, mark(s, at));
+    let r = field_writers::four(out, q, wires);
+    field_writers::one(out, r, readers::byte_on(s, at, 7));
+    wire_links::on(to, 8)
+}
+
+// All that comes before a net's nodes, but for its free wires; the place of its nodes.
+fn write_before(s: &[u8], ws: &[u32], out: &mut [u8], at: usize, to: usize, m: Measured) -> usize
+    ensures { λ r. ⌜ (r ≡ beforePlace (now (s .entry)) (now (ws .entry)) at to m) × (now (out .exit) ≡ beforeWritten (now (s .entry)) (now (ws .entry)) at to m (now (out .entry))) ⌝ }
+{
+    let k = readers::byte_on(s, at, 7);
+    let free = write_head(s, out, at, to, m.wires);
+    let c = wire_links::on(free, 2 * (k as usize));
+    field_writers::two(out, c, (m.pairs % 65536) as u16);
+    let p = wire_links::on(c, 2);
+    let q = wire_links::put_pairs(ws, out, p, m.wires);
+    field_writers::two(out, q, (m.nodes % 65536) as u16);
+    wire_links::on(q, 2)
+}
+
+// The place of a net in the file, and in the output.
+pub struct Spot {
+    pub at: usize,
+    pub to: usize,
+}
+
+// The net there; the place of the next.
+fn write_net(s: &[u8], ws: &mut [u32], out: &mut [u8], p: Spot) -> Spot
+    ensures { λ r. ⌜ (r ≡ netSpot (now (s .entry)) (now (ws .entry)) p) × (now (ws .exit) ≡ netWords (now (s .entry)) (now (ws .entry)) p) × (now (out .exit) ≡ netOut (now (s .entry)) (now (ws .entry)) p (now (out .entry))) ⌝ }
+{
+    let m = measure_net(s, ws, p.at);
+    let nodes = write_before(s, ws, out, p.at, p.to, m);
+    let free = wire_links::on(p.to, 8);
+    let g = embed_nets::embed_net(s, ws, out, p.at, nodes, free);
+    Spot { at: g.at, to: g.to }
+}
+
+// n nets, one after another.
+pub fn write_nets(s: &[u8], ws: &mut [u32], out: &mut [u8], from: Spot, n: u32) -> Spot
+    ensures { λ r. ⌜ (r ≡ netsSpot (now (s .entry)) (now (ws .entry)) from n) × (now (ws .exit) ≡ netsWords (now (s .entry)) (now (ws .entry)) from n) × (now (out .exit) ≡ netsOut (now (s .entry)) (now (ws .entry)) from n (now (out .entry))) ⌝ }
+{
+    let mut p = from;
+    let mut left = n;
+    while 0 < left {
+        p = write_net(s, ws, out, p);
+        left -= 1;
+    }
+    p
+}

@@ -1,0 +1,81 @@
+-- The walk leaves the words past the table of links as they were: with the table zeroed, and more, nothing is left of it.
+use Prim.Native.Nat.{ℕ, zero, suc, _+_, _<_, _≤_}
+use mathlib.Core.Path.{_≡_, refl, ap, _∙_}
+use mathlib.Core.List.{List, [], _∷_}
+use native.Mathlib.Omega.{arith}
+use native.Mathlib.Nat.{not-suc-le-zero}
+use lib.ListN.{set}
+use Rattle.words.specs.Choose.{eq-split}
+use Rattle.net_file_laws.specs.Bytes.{Bytes}
+use Rattle.fields.specs.Fields.{be16}
+use Rattle.clear.specs.Zeroed.{zeroed}
+use Rattle.wire_links.specs.Table.{far, join, link}
+use Rattle.embed.specs.declared.Growth.{Growth}
+use Rattle.embed_nets.specs.Nets.{hung, leftWalked, linkHung, linksHung, linkWalked, netHung}
+use Rattle.flat_nets.specs.declared.Total.{Total}
+use Rattle.flat_nets.specs.declared.Spot.{Spot}
+use Rattle.flat_nets.specs.Flat.{linked, summed, linkedAll, netSpot, netWords, netsWords}
+use Rattle.flat_nets_laws.specs.Links.{two-low, top-low}
+
+zeroed-within : (k m : ℕ) (ws : List ℕ) → k ≤ m → zeroed m (zeroed k ws) ≡ zeroed m ws
+unfolding zeroed
+zeroed-within zero m ws h = refl
+zeroed-within (suc k) zero ws h = absurd (not-suc-le-zero h)
+zeroed-within (suc k) (suc m) [] h = refl
+zeroed-within (suc k) (suc m) (w ∷ ws) h = ap (λ (l : List ℕ). 0 ∷ l) (zeroed-within k m ws (omega arith))
+
+zeroed-put : (m : ℕ) (ws : List ℕ) (i v : ℕ) → i < m → zeroed m (set ws i v) ≡ zeroed m ws
+unfolding zeroed
+zeroed-put zero ws i v h = absurd (not-suc-le-zero h)
+zeroed-put (suc m) [] i v h = refl
+zeroed-put (suc m) (w ∷ ws) zero v h = refl
+zeroed-put (suc m) (w ∷ ws) (suc i) v h = ap (λ (l : List ℕ). 0 ∷ l) (zeroed-put m ws i v (omega arith))
+
+far-low : (ws : List ℕ) (a : ℕ) → a < 65536 → far ws a < 65536
+unfolding far
+far-low ws a h = eq-split _ _ _ _ (λ (x : ℕ). x < 65536) (λ e. h) (λ e. omega arith)
+
+module _ (m : ℕ) (wide : 65536 ≤ m) where
+  join-kept : (ws : List ℕ) (x y : ℕ) → x < 65536 → y < 65536 → zeroed m (join ws x y) ≡ zeroed m ws
+  unfolding join
+  join-kept ws x y h k =
+      eq-split _ _ _ _ (λ (l : List ℕ). zeroed m l ≡ zeroed m ws) (λ e. refl)
+      (λ e. zeroed-put m (set ws x (y + 1)) y (x + 1) (omega arith) ∙ zeroed-put m ws x (y + 1) (omega arith))
+
+  link-kept : (ws : List ℕ) (a b : ℕ) → a < 65536 → b < 65536 → zeroed m (link ws a b) ≡ zeroed m ws
+  unfolding link
+  link-kept ws a b h k =
+      join-kept (set (set ws a 0) b 0) (far ws a) (far (set ws a 0) b) (far-low ws a h) (far-low (set ws a 0) b k)
+      ∙ zeroed-put m (set ws a 0) b 0 (omega arith) ∙ zeroed-put m ws a 0 (omega arith)
+
+  module _ (s : List ℕ) (bytes : Bytes s) where
+    hung-kept : (ws : List ℕ) (a : Growth) → a .top < 65536 → zeroed m (hung s ws a) ≡ zeroed m ws
+    unfolding hung
+    hung-kept ws a h = eq-split _ _ _ _ (λ (l : List ℕ). zeroed m l ≡ zeroed m ws) (λ e. link-kept ws (a .top) (be16 s (a .at + 1)) h (two-low s bytes (a .at + 1))) (λ e. refl)
+
+    links-kept : (k : ℕ) (ws : List ℕ) (g : Growth) → zeroed m (linksHung s ws g k) ≡ zeroed m ws
+    unfolding linksHung linkHung leftWalked
+    links-kept zero ws g = refl
+    links-kept (suc k) ws g = links-kept k (linkHung s ws g) (linkWalked s g) ∙ hung-kept ws (leftWalked s g) (top-low s bytes 64 g 65536)
+
+    net-kept : (ws : List ℕ) (at to aux : ℕ) → zeroed m (netHung s ws at to aux) ≡ zeroed m ws
+    unfolding netHung
+    net-kept ws at to aux = links-kept _ ws _
+
+    linked-kept : (ws : List ℕ) (at : ℕ) → zeroed m (linked s ws at) ≡ zeroed m ws
+    unfolding linked
+    linked-kept ws at = net-kept (zeroed 65536 ws) at 0 0 ∙ zeroed-within 65536 m ws wide
+
+    pub sums-kept : (k : ℕ) (ws : List ℕ) (t : Total) → zeroed m (linkedAll s ws t k) ≡ zeroed m ws
+    unfolding linkedAll
+    sums-kept zero ws t = refl
+    sums-kept (suc k) ws t = sums-kept k (linked s ws (t .at)) (summed s ws t) ∙ linked-kept ws (t .at)
+
+    words-kept : (ws : List ℕ) (p : Spot) → zeroed m (netWords s ws p) ≡ zeroed m ws
+    unfolding netWords
+    words-kept ws p = net-kept (linked s ws (p .at)) (p .at) _ _ ∙ linked-kept ws (p .at)
+
+    pub nets-kept : (k : ℕ) (ws : List ℕ) (p : Spot) → zeroed m (netsWords s ws p k) ≡ zeroed m ws
+    unfolding netsWords
+    nets-kept zero ws p = refl
+    nets-kept (suc k) ws p = nets-kept k (netWords s ws p) (netSpot s ws p) ∙ words-kept ws p

@@ -1,0 +1,5 @@
+pub mod Links
+pub mod Net
+pub mod Flat
+pub mod Nets
+pub mod Kept

@@ -1,0 +1,4 @@
+pub mod Marks
+pub mod Wires
+pub mod Holes
+pub mod Links

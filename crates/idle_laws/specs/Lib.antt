@@ -1,0 +1,17 @@
+pub mod Rows
+pub mod Able
+pub mod Seen
+pub mod Mirror
+pub mod Placed
+pub mod Left
+pub mod Acted
+pub mod Grafted
+pub mod Out
+pub mod Tried
+pub mod Visited
+pub mod Turn
+pub mod Begun
+pub mod Names
+pub mod Ends
+pub mod Rest
+pub mod Accepted

@@ -1,0 +1,19 @@
+use lib.ListN.{List·getD-eq-default}
+use borrow.Author.Needs.{needs}
+use Rattle.name_table.proofs.get.Statement.{statement}
+use Rattle.name_table.proofs.get.Tie as tie
+
+mul-result : tie.Need-mul-result
+mul-result c = search needs
+
+shared-slice-read-result : tie.Need-shared-slice-read-result
+shared-slice-read-result c = search needs
+
+returns : tie.Need-returns
+returns c = search needs
+
+returns-2 : tie.Need-returns-2
+returns-2 c = rw (List·getD-eq-default, c .if1 .left)
+
+pub get-spec : {M : Type 1} → statement M
+get-spec = tie.close (tie.spec mul-result shared-slice-read-result returns returns-2)

@@ -1,0 +1,1 @@
+// Laws of pruning: definitions and laws only, in specs/.

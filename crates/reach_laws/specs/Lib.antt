@@ -1,0 +1,5 @@
+pub mod Marks
+pub mod Closes
+pub mod Tables
+pub mod Finds
+pub mod Onward

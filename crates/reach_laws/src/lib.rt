@@ -1,0 +1,1 @@
+// Laws of what is reached: definitions and laws only, in specs/.

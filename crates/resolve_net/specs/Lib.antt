@@ -1,0 +1,4 @@
+pub mod Plain
+pub mod Renamed
+pub mod Net
+pub mod Ways

@@ -1,0 +1,153 @@
+-- What a function of the crate leaves on each way out, and one turn of each loop, in the words of its tests and calls.
+use Prim.Native.Nat.{ℕ, zero, suc, _+_, _-_, _%_, _<_, _≤_}
+use mathlib.Core.Path.{_≡_, refl, sym, ap, _∙_}
+use mathlib.Core.List.{List}
+use native.Mathlib.Nat.{not-suc-le-zero}
+use native.Mathlib.Numerals.{sub-one}
+use Rattle.words.specs.Choose.{eq-yes, eq-no}
+use Rattle.words.specs.Left
+use Rattle.net_file.specs.Write.{be}
+use Rattle.fields.specs.Fields.{byte}
+use Rattle.ends.specs.Ends.{within}
+use Rattle.store.specs.Store.{store, between}
+use Rattle.wire_tables.specs.Tables.{hung, kept-left, kept-right}
+use Rattle.resolve_pass.specs.Pass.{next}
+use Rattle.resolve_walk.specs.declared.Pen.{Pen}
+use Rattle.resolve_walk.specs.declared.Stepped.{Stepped}
+use Rattle.resolve_walk.specs.declared.Stepped.the-variants.{At, Deep}
+use Rattle.resolve_walk.specs.Penned.{Penned, Inked, whole}
+use Rattle.resolve_walk.specs.Walk.{on, on-step, tree, trees}
+use Rattle.resolve_net.specs.declared.Listed.{Listed}
+use Rattle.resolve_net.specs.declared.Ready.{Ready}
+use Rattle.resolve_net.specs.Plain.{copy-tree, copy-link, copy-links, plain}
+use Rattle.resolve_net.specs.Renamed.{visit-link, visit-links, list-tree, circle, circles, end-links, renamed-links, renamed}
+use Rattle.resolve_net.specs.Net.{onward, wires-at, prepare, resolved, net}
+
+-- a contract's two equations from one, and one from two
+pub inked : {A : Type 0} {x : Inked A} {a : A} {o : List ℕ} → record { is = a; out = o } ≡ x → (a ≡ x .is) × (o ≡ x .out)
+inked e = (ap (λ t. t .is) e, ap (λ t. t .out) e)
+
+both : {A : Type 0} (x : Inked A) {a : A} {o : List ℕ} → a ≡ x .is → o ≡ x .out → record { is = a; out = o } ≡ x
+both x e f = λ i. record { is = e i; out = f i }
+
+module _ (s ws : List ℕ) where
+  pub copy-links-more : (out o : List ℕ) (i j k to p : ℕ) (x : Inked ℕ) → copy-links s ws k out i to ≡ x → 0 < k → p ≡ copy-link s ws out i to .is
+      → o ≡ copy-link s ws out i to .out → j ≡ (i + 1) % 4294967296 → copy-links s ws (k - 1) o j p ≡ x
+  unfolding copy-links next
+  copy-links-more out o i j zero to p x g h ep eo ej = absurd (not-suc-le-zero h)
+  copy-links-more out o i j (suc k) to p x g h ep eo ej = rw (sub-one, ep, eo, ej) g
+
+  pub copy-links-done : (out : List ℕ) (i k to : ℕ) (x : Inked ℕ) → copy-links s ws k out i to ≡ x → k ≤ 0 → record { is = to; out = out } ≡ x
+  unfolding copy-links
+  copy-links-done out i zero to x g h = g
+  copy-links-done out i (suc k) to x g h = absurd (not-suc-le-zero h)
+
+  -- ---- circles
+
+  pub circle-none : (out : List ℕ) (w v : ℕ) (c : Listed) → v ≡ hung ws w → v ≡ 0 → record { is = c; out = out } ≡ circle s ws out w c
+  unfolding circle
+  circle-none out w v c ev z = rw (← ev) (eq-yes _ _ _ _ z refl)
+
+  pub circle-some : (out o₁ o₂ o : List ℕ) (w v p q t n : ℕ) (c : Listed) → v ≡ hung ws w → (v ≡ 0 → ⊥) → o₁ ≡ store (c .to) (be 1 0) out → p ≡ on (c .to) 1
+      → o₂ ≡ store p (be 2 w) o₁ → q ≡ on (c .to) 3 → t ≡ copy-tree s o₂ (v - 1) q .is → o ≡ copy-tree s o₂ (v - 1) q .out → n ≡ (c .count + 1) % 4294967296
+      → record { is = record { count = n; to = t }; out = o } ≡ circle s ws out w c
+  unfolding circle list-tree next
+  circle-some out o₁ o₂ o w v p q t n c ev nz e₁ ep e₂ eq et eo en = rw (← ev) (eq-no _ _ _ _ nz (rw (← e₁, ← ep, ← e₂, ← eq, ← et, ← eo, en)))
+
+  pub circles-more : (out o : List ℕ) (w v k : ℕ) (c d : Listed) (x : Inked Listed) → circles s ws k out w c ≡ x → 0 < k → d ≡ circle s ws out (w % 65536) c .is
+      → o ≡ circle s ws out (w % 65536) c .out → v ≡ (w + 1) % 4294967296 → circles s ws (k - 1) o v d ≡ x
+  unfolding circles next
+  circles-more out o w v zero c d x g h ed eo ev = absurd (not-suc-le-zero h)
+  circles-more out o w v (suc k) c d x g h ed eo ev = rw (sub-one, ed, eo, ev) g
+
+  pub circles-done : (out : List ℕ) (w k : ℕ) (c : Listed) (x : Inked Listed) → circles s ws k out w c ≡ x → k ≤ 0 → record { is = c; out = out } ≡ x
+  unfolding circles
+  circles-done out w zero c x g h = g
+  circles-done out w (suc k) c x g h = absurd (not-suc-le-zero h)
+
+-- ---- kept links, visited
+
+module _ (s ws v out o₁ : List ℕ) (i a b to : ℕ) (t : Stepped) (ea : a ≡ kept-left ws i) (eb : b ≡ kept-right ws i) (et : t ≡ tree s 64 ws out a to .is)
+    (ev : v ≡ tree s 64 ws out a to .ws) (e₁ : o₁ ≡ tree s 64 ws out a to .out) where
+  pub visit-link-on : (w o : List ℕ) (pen : Pen) (q : Stepped) → t ≡ At pen → q ≡ tree s 64 v o₁ b (pen .to) .is → w ≡ tree s 64 v o₁ b (pen .to) .ws
+      → o ≡ tree s 64 v o₁ b (pen .to) .out → record { is = q; ws = w; out = o } ≡ visit-link s ws out i to
+  unfolding visit-link on-step
+  visit-link-on w o pen q h eq ew eo = rw (← ea, ← eb, ← et, ← ev, ← e₁, h) (whole (tree s 64 v o₁ b (pen .to)) eq ew eo)
+
+  pub visit-link-deep : t ≡ Deep → record { is = Deep; ws = v; out = o₁ } ≡ visit-link s ws out i to
+  unfolding visit-link on-step
+  visit-link-deep h = rw (← ea, ← eb, ← et, ← ev, ← e₁, h) refl
+
+module _ (s ws w out o : List ℕ) (i to k : ℕ) (t : Stepped) (x : Penned Stepped) (g : visit-links s k ws out i to ≡ x) (h : 0 < k)
+    (et : t ≡ visit-link s ws out i to .is) (ew : w ≡ visit-link s ws out i to .ws) (eo : o ≡ visit-link s ws out i to .out) where
+  pub visit-links-more : (j : ℕ) (pen : Pen) → t ≡ At pen → j ≡ (i + 1) % 4294967296 → visit-links s (k - 1) w o j (pen .to) ≡ x
+  unfolding visit-links on-step next
+  visit-links-more j pen e ej = go k g h
+    where
+      go : (n : ℕ) → visit-links s n ws out i to ≡ x → 0 < n → visit-links s (n - 1) w o j (pen .to) ≡ x
+      go zero f l = absurd (not-suc-le-zero l)
+      go (suc n) f l = rw (sub-one, ew, eo, ej) (rw (← et, e) at f)
+
+  pub visit-links-deep : t ≡ Deep → record { is = Deep; ws = w; out = o } ≡ x
+  unfolding visit-links on-step
+  visit-links-deep e = go k g h
+    where
+      go : (n : ℕ) → visit-links s n ws out i to ≡ x → 0 < n → record { is = Deep; ws = w; out = o } ≡ x
+      go zero f l = absurd (not-suc-le-zero l)
+      go (suc n) f l = rw (ew, eo) (rw (← et, e) at f)
+
+pub visit-links-done : (s ws out : List ℕ) (i k to : ℕ) (x : Penned Stepped) → visit-links s k ws out i to ≡ x → k ≤ 0
+    → record { is = At (record { from = 0; to = to }); ws = ws; out = out } ≡ x
+unfolding visit-links
+visit-links-done s ws out i zero to x g h = g
+visit-links-done s ws out i (suc k) to x g h = absurd (not-suc-le-zero h)
+
+-- ---- the links of a net, and the net
+
+module _ (s ws v out o₁ : List ℕ) (wires kept to p : ℕ) (t : Stepped) (ep : p ≡ on to 2) (et : t ≡ visit-links s kept ws out 0 p .is)
+    (ev : v ≡ visit-links s kept ws out 0 p .ws) (e₁ : o₁ ≡ visit-links s kept ws out 0 p .out) where
+  pub links-on : (o : List ℕ) (pen : Pen) (e : ℕ) → t ≡ At pen → e ≡ end-links s v o₁ wires kept to (pen .to) .is → o ≡ end-links s v o₁ wires kept to (pen .to) .out
+      → record { is = At (record { from = 0; to = e }); ws = v; out = o } ≡ renamed-links s ws out wires kept to
+  unfolding renamed-links on-step
+  links-on o pen e h ee eo = rw (← ep, ← et, ← ev, ← e₁, h) (rw (← ee, ← eo))
+
+  pub links-deep : t ≡ Deep → record { is = Deep; ws = v; out = o₁ } ≡ renamed-links s ws out wires kept to
+  unfolding renamed-links on-step
+  links-deep h = rw (← ep, ← et, ← ev, ← e₁, h)
+
+module _ (s ws v out o₁ o₂ : List ℕ) (at wires kept to from f n p : ℕ) (t : Stepped) (ef : from ≡ within s (at + 8)) (ex : f ≡ within s (at + 7)) (en : n ≡ byte s f)
+    (e₁ : o₁ ≡ store to (between s at from) out) (ep : p ≡ on to 8) (et : t ≡ trees (tree s 64) n ws o₁ from p .is) (ev : v ≡ trees (tree s 64) n ws o₁ from p .ws)
+    (e₂ : o₂ ≡ trees (tree s 64) n ws o₁ from p .out) where
+  pub renamed-on : (w o : List ℕ) (pen : Pen) (q : Stepped) → t ≡ At pen → q ≡ renamed-links s v o₂ wires kept (pen .to) .is
+      → w ≡ renamed-links s v o₂ wires kept (pen .to) .ws → o ≡ renamed-links s v o₂ wires kept (pen .to) .out
+      → record { is = q; ws = w; out = o } ≡ renamed s ws out at wires kept to
+  unfolding renamed on-step
+  renamed-on w o pen q h eq ew eo =
+      rw (← ef, ← ex, ← en, ← e₁, ← ep, ← et, ← ev, ← e₂, h) (whole (renamed-links s v o₂ wires kept (pen .to)) eq ew eo)
+
+  pub renamed-deep : t ≡ Deep → record { is = Deep; ws = v; out = o₂ } ≡ renamed s ws out at wires kept to
+  unfolding renamed on-step
+  renamed-deep h = rw (← ef, ← ex, ← en, ← e₁, ← ep, ← et, ← ev, ← e₂, h)
+
+pub onward-on : (t : Stepped) (from : ℕ) (pen : Pen) → t ≡ At pen → At (record { from = from; to = pen .to }) ≡ onward t from
+unfolding onward on-step
+onward-on t from pen e = rw e
+
+pub onward-deep : (t : Stepped) (from : ℕ) → t ≡ Deep → Deep ≡ onward t from
+unfolding onward on-step
+onward-deep t from e = rw e
+
+module _ (s ws v out : List ℕ) (at to : ℕ) (r : Ready) (er : r ≡ prepare s ws at .is) (ev : v ≡ prepare s ws at .ws) where
+  ready-is : prepare s ws at ≡ record { is = r; ws = v }
+  ready-is = sym (Left.whole (prepare s ws at) er ev)
+
+  pub net-plain : (o : List ℕ) (p : ℕ) → r .left ≡ 0 → p ≡ plain s v out at (r .links) (r .kept) to .is → o ≡ plain s v out at (r .links) (r .kept) to .out
+      → record { is = At (record { from = r .end; to = p }); ws = v; out = o } ≡ net s ws out at to
+  unfolding net resolved
+  net-plain o p z ep eo = rw ready-is (eq-yes _ _ _ _ z (rw (ep, eo)))
+
+  pub net-renamed : (w o : List ℕ) (n : ℕ) (t q : Stepped) → (r .left ≡ 0 → ⊥) → n ≡ wires-at s at → t ≡ renamed s v out at n (r .kept) to .is
+      → w ≡ renamed s v out at n (r .kept) to .ws → o ≡ renamed s v out at n (r .kept) to .out → q ≡ onward t (r .end)
+      → record { is = q; ws = w; out = o } ≡ net s ws out at to
+  unfolding net resolved
+  net-renamed w o n t q nz en et ew eo eq = rw ready-is (eq-no _ _ _ _ nz (rw (eq, et, ew, eo, en)))

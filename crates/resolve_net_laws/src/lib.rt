@@ -1,0 +1,1 @@
+// A stored tree net is written as the definition resolves it. Laws only, in specs/.

@@ -1,0 +1,82 @@
+-- What a function of the crate leaves on each way out, and one turn of each loop, in the words of its tests and calls.
+use Prim.Native.Nat.{ℕ, zero, suc, _+_, _-_, _<_, _≤_}
+use mathlib.Core.Path.{_≡_, refl}
+use mathlib.Core.List.{List}
+use native.Mathlib.Nat.{not-suc-le-zero}
+use native.Mathlib.Numerals.{sub-one}
+use Rattle.words.specs.Choose.{eq-yes, eq-no}
+use Rattle.words.specs.Left.{Left, whole}
+use Rattle.fields.specs.Fields.{byte}
+use Rattle.wire_tables.specs.Tables.{link, unlink, smaller, hung, hang}
+use Rattle.resolve_pass.specs.declared.Passed.{Passed}
+use Rattle.resolve_pass.specs.Pass.{wire-at, tree-end, place, link-wires, wire-links, next, less, add-kept, meet, pass-link, pass}
+
+module _ (ws s : List ℕ) (a b x y : ℕ) (ex : x ≡ byte s a) where
+  pub link-node : (x ≡ 0 → ⊥) → ws ≡ link-wires ws s a b
+  unfolding link-wires
+  link-node n = rw (← ex) (eq-no _ _ _ _ n refl)
+
+  module _ (z : x ≡ 0) (ey : y ≡ byte s b) where
+    pub link-other : (y ≡ 0 → ⊥) → ws ≡ link-wires ws s a b
+    unfolding link-wires
+    link-other n = rw (← ex, ← ey) (eq-yes _ _ _ _ z (eq-no _ _ _ _ n refl))
+
+    pub link-both : (u v : ℕ) (w : List ℕ) → y ≡ 0 → u ≡ wire-at s a → v ≡ wire-at s b → w ≡ link ws u v → w ≡ link-wires ws s a b
+    unfolding link-wires
+    link-both u v w z′ eu ev ew = rw (← ex, ← ey) (eq-yes _ _ _ _ z (eq-yes _ _ _ _ z′ (rw (ew, eu, ev))))
+
+pub wire-links-more : (ws w s : List ℕ) (at b e k : ℕ) (x : Left ℕ) → wire-links ws s at k ≡ x → 0 < k → b ≡ tree-end s at → w ≡ link-wires ws s at b
+    → e ≡ tree-end s b → wire-links w s e (k - 1) ≡ x
+unfolding wire-links
+wire-links-more ws w s at b e zero x g h eb ew ee = absurd (not-suc-le-zero h)
+wire-links-more ws w s at b e (suc k) x g h eb ew ee = rw (sub-one, ee, ew, eb) g
+
+pub wire-links-done : (ws s : List ℕ) (at k : ℕ) (x : Left ℕ) → wire-links ws s at k ≡ x → k ≤ 0 → record { is = at; ws = ws } ≡ x
+unfolding wire-links
+wire-links-done ws s at zero x g h = g
+wire-links-done ws s at (suc k) x g h = absurd (not-suc-le-zero h)
+
+module _ (ws v v₁ : List ℕ) (w at c u : ℕ) (p : Passed) (ec : c ≡ smaller ws w) (ev : v ≡ unlink ws w) (eu : u ≡ hung v c) (e₁ : v₁ ≡ hang v c 0) where
+  pub meet-hangs : (v₂ : List ℕ) (n l : ℕ) → u ≡ 0 → n ≡ next at → v₂ ≡ hang v₁ c n → l ≡ next (p .left)
+      → record { is = record { kept = p .kept; left = l }; ws = v₂ } ≡ meet ws w at p
+  unfolding meet
+  meet-hangs v₂ n l z en e₂ el = rw (← ec, ← ev, ← eu, ← e₁) (eq-yes _ _ _ _ z (rw (e₂, en, el)))
+
+  pub meet-links : (v₂ : List ℕ) (l : ℕ) (q : Passed) → (u ≡ 0 → ⊥) → l ≡ less (p .left)
+      → q ≡ add-kept v₁ (u - 1) at (record { kept = p .kept; left = l }) .is → v₂ ≡ add-kept v₁ (u - 1) at (record { kept = p .kept; left = l }) .ws
+      → record { is = q; ws = v₂ } ≡ meet ws w at p
+  unfolding meet
+  meet-links v₂ l q n el eq e₂ =
+      rw (← ec, ← ev, ← eu, ← e₁) (eq-no _ _ _ _ n (rw (← el) (whole (add-kept v₁ (u - 1) at (record { kept = p .kept; left = l })) eq e₂)))
+
+module _ (ws s : List ℕ) (a b x y : ℕ) (p : Passed) (ex : x ≡ byte s a) (ey : y ≡ byte s b) where
+  pub pass-wires : x ≡ 0 → y ≡ 0 → record { is = p; ws = ws } ≡ pass-link ws s a b p
+  unfolding pass-link
+  pass-wires z z′ = rw (← ex, ← ey) (eq-yes _ _ _ _ z (eq-yes _ _ _ _ z′ refl))
+
+  module _ (w : List ℕ) (q : Passed) where
+    pub pass-right : (u r : ℕ) → x ≡ 0 → (y ≡ 0 → ⊥) → u ≡ wire-at s a → r ≡ place b → q ≡ meet ws u r p .is → w ≡ meet ws u r p .ws
+        → record { is = q; ws = w } ≡ pass-link ws s a b p
+    unfolding pass-link
+    pass-right u r z n eu er eq ew = rw (← ex, ← ey) (eq-yes _ _ _ _ z (eq-no _ _ _ _ n (rw (← eu, ← er) (whole (meet ws u r p) eq ew))))
+
+    pub pass-left : (u r : ℕ) → (x ≡ 0 → ⊥) → y ≡ 0 → u ≡ wire-at s b → r ≡ place a → q ≡ meet ws u r p .is → w ≡ meet ws u r p .ws
+        → record { is = q; ws = w } ≡ pass-link ws s a b p
+    unfolding pass-link
+    pass-left u r n z eu er eq ew = rw (← ex, ← ey) (eq-no _ _ _ _ n (eq-yes _ _ _ _ z (rw (← eu, ← er) (whole (meet ws u r p) eq ew))))
+
+    pub pass-nodes : (i j : ℕ) → (x ≡ 0 → ⊥) → (y ≡ 0 → ⊥) → i ≡ place a → j ≡ place b → q ≡ add-kept ws i j p .is → w ≡ add-kept ws i j p .ws
+        → record { is = q; ws = w } ≡ pass-link ws s a b p
+    unfolding pass-link
+    pass-nodes i j n n′ ei ej eq ew = rw (← ex, ← ey) (eq-no _ _ _ _ n (eq-no _ _ _ _ n′ (rw (← ei, ← ej) (whole (add-kept ws i j p) eq ew))))
+
+pub pass-more : (ws w s : List ℕ) (at b e k : ℕ) (p q : Passed) (x : Left Passed) → pass ws s at k p ≡ x → 0 < k → b ≡ tree-end s at
+    → q ≡ pass-link ws s at b p .is → w ≡ pass-link ws s at b p .ws → e ≡ tree-end s b → pass w s e (k - 1) q ≡ x
+unfolding pass
+pass-more ws w s at b e zero p q x g h eb eq ew ee = absurd (not-suc-le-zero h)
+pass-more ws w s at b e (suc k) p q x g h eb eq ew ee = rw (sub-one, ee, ew, eq, eb) g
+
+pub pass-done : (ws s : List ℕ) (at k : ℕ) (p : Passed) (x : Left Passed) → pass ws s at k p ≡ x → k ≤ 0 → record { is = p; ws = ws } ≡ x
+unfolding pass
+pass-done ws s at zero p x g h = g
+pass-done ws s at (suc k) p x g h = absurd (not-suc-le-zero h)

@@ -1,0 +1,4 @@
+pub mod Room
+pub mod Linking
+pub mod Keeping
+pub mod Passing

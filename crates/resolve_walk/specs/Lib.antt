@@ -1,0 +1,3 @@
+pub mod Penned
+pub mod Walk
+pub mod Ways

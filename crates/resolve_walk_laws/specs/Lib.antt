@@ -1,0 +1,4 @@
+pub mod Meant
+pub mod Lead
+pub mod Places
+pub mod Trees

@@ -1,0 +1,1 @@
+// The walk over stored trees writes what the definition gives. Laws only, in specs/.

@@ -1,0 +1,4 @@
+pub mod Tables
+pub mod Nets
+pub mod Result
+pub mod Accepted

@@ -1,0 +1,4 @@
+pub mod Each
+pub mod Parts
+pub mod Files
+pub mod Trees

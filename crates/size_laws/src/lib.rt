@@ -1,0 +1,1 @@
+// How long a net file can be. Laws only, in specs/.

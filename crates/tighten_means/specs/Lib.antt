@@ -1,0 +1,3 @@
+pub mod Sieve
+pub mod Sweep
+pub mod Dirty

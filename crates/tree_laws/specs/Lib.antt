@@ -1,0 +1,4 @@
+pub mod Places
+pub mod Parts
+pub mod Stands
+pub mod Bounds

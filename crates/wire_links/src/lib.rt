@@ -1,0 +1,99 @@
+// `WireLinks` of net.rs as a table by wire in the lent words: 0 where a wire is linked with none, else one more than the wire that it is linked with.
+ghost use mathlib.Core.Path.{_≡_};
+ghost use Prim.Native.Nat.{_≤_};
+ghost use Rattle.wire_links.specs.Table.{on, far, join, link, begins, countPairs, pairPlace, pairBytes, pairsPlace, pairsBytes};
+
+// The place k bytes on, up to the greatest number there is.
+pub fn on(at: usize, k: usize) -> usize
+    ensures { λ r. ⌜ r ≡ on at k ⌝ }
+{
+    if 18446744073709551615 - at < k {
+        return 18446744073709551615;
+    }
+    at + k
+}
+
+// ---- links
+
+// What wire a is linked with, or a itself.
+fn far(ws: &[u32], a: u16) -> u16
+    ensures { λ r. ⌜ r ≡ far (now (ws .entry)) a ⌝ }
+{
+    let p = words::get(ws, a as usize);
+    if p == 0 {
+        return a;
+    }
+    ((p - 1) % 65536) as u16
+}
+
+// Two wires linked with each other, unless they are one.
+fn join(ws: &mut [u32], x: u16, y: u16)
+    ensures { λ _. ⌜ now (ws .exit) ≡ join (now (ws .entry)) x y ⌝ }
+{
+    if x == y {
+        return;
+    }
+    words::put(ws, x as usize, y as u32 + 1);
+    words::put(ws, y as usize, x as u32 + 1)
+}
+
+// Wires a and b are one: the far ends of what they were linked with become so.
+pub fn link(ws: &mut [u32], a: u16, b: u16)
+    ensures { λ _. ⌜ now (ws .exit) ≡ link (now (ws .entry)) a b ⌝ }
+{
+    let x = far(ws, a);
+    words::put(ws, a as usize, 0);
+    let y = far(ws, b);
+    words::put(ws, b as usize, 0);
+    join(ws, x, y)
+}
+
+// ---- the pairs of the wires below a counter, ascending
+
+// 1 where wire a is linked with a greater one, else 0.
+fn begins(ws: &[u32], a: u32) -> u32
+    ensures { λ r. ⌜ (r ≡ begins (now (ws .entry)) a) × (r ≤ 1) ⌝ }
+{
+    if a as u64 + 1 < words::get(ws, a as usize) as u64 {
+        return 1;
+    }
+    0
+}
+
+pub fn count_pairs(ws: &[u32], wires: u32) -> u32
+    ensures { λ r. ⌜ (r ≡ countPairs (now (ws .entry)) wires wires) × (r ≤ wires) ⌝ }
+{
+    let mut left = wires;
+    let mut n: u32 = 0;
+    while 0 < left {
+        n += begins(ws, wires - left);
+        left -= 1;
+    }
+    n
+}
+
+// The pair that begins at wire a, if one does; the place after it.
+fn put_pair(ws: &[u32], out: &mut [u8], to: usize, a: u32) -> usize
+    ensures { λ r. ⌜ (r ≡ pairPlace (now (ws .entry)) to a) × (now (out .exit) ≡ pairBytes (now (ws .entry)) (now (out .entry)) to a) ⌝ }
+{
+    let b = words::get(ws, a as usize);
+    if (b as u64) <= a as u64 + 1 {
+        return to;
+    }
+    field_writers::two(out, to, (a % 65536) as u16);
+    field_writers::two(out, on(to, 2), ((b - 1) % 65536) as u16);
+    on(to, 4)
+}
+
+// All of them, from a place on; the place after them.
+pub fn put_pairs(ws: &[u32], out: &mut [u8], at: usize, wires: u32) -> usize
+    ensures { λ r. ⌜ (r ≡ pairsPlace (now (ws .entry)) wires wires at) × (now (out .exit) ≡ pairsBytes (now (ws .entry)) wires wires at (now (out .entry))) ⌝ }
+{
+    let mut left = wires;
+    let mut to = at;
+    while 0 < left {
+        to = put_pair(ws, out, to, wires - left);
+        left -= 1;
+    }
+    to
+}

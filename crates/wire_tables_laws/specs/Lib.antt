@@ -1,0 +1,3 @@
+pub mod Get
+pub mod Table
+pub mod Linked

@@ -1,0 +1,1 @@
+"""Net files for the conversions and for pruning, with their results."""
