@@ -13,7 +13,7 @@ use borrow.Author.Tests.{eq-eqb, ne-eqb}
 use Rattle.net_file.specs.Lists.{bit, count}
 use Rattle.net_file.specs.Checks.{pairWires, occurs}
 use Rattle.conversions.specs.Links.{Links, get, remove, insert, orElse, link}
-use Rattle.conversion_laws.specs.Get.{get-removed, get-kept, get-inserted, get-beside}
+use Rattle.wire_tables_laws.specs.Get.{get-removed, get-kept, get-inserted, get-beside}
 
 -- one link after another
 unfoldable pub linkAll : Links → List (ℕ × ℕ) → Links

@@ -5,7 +5,6 @@ pub mod Accepted
 pub mod ToTree
 pub mod Pairs
 pub mod Resolved
-pub mod Get
 pub mod Ends
 pub mod PairsOf
 pub mod Embed
