@@ -25,6 +25,16 @@ def p1():
     return spec
 
 
+def p1_tree():
+    """P1 as a tree net: free 0 and 1, and a link x(0) = x(1)."""
+    spec = p1()
+    spec.version = 65
+    net = spec.nets[0]
+    net.wires, net.nodes = 2, []
+    net.links = [(((0, 0, []), [0]), ((0, 0, []), [1]))]
+    return spec
+
+
 def small_tree():
     """One net: free 0, and a link x(0, 1) = y(1)."""
     from gen import NetSpec, Spec
@@ -71,7 +81,7 @@ def main(args):
         print_fields(small_tree())
         return
     assert p1().bytes() == next(case.data for case in gen.examples() if case.label == "P1")
-    for name, spec, version, answer in (("p1", p1(), 1, 0), ("tree", small_tree(), 65, 0),
+    for name, spec, version, answer in (("p1", p1(), 1, 0), ("p1-tree", p1_tree(), 65, 0), ("tree", small_tree(), 65, 0),
                                         ("repeated-path", repeated_path(), 1, 6)):
         assert model.verdict(spec.bytes(), version) == answer
         write("examples/%s.net" % name, spec.bytes())

@@ -11,9 +11,8 @@ use Rattle.net_file_laws.specs.Exact.{Each}
 use Rattle.stored.specs.Stored.{tableAt, tableEnd}
 use Rattle.ends.specs.Ends.{within, table-up}
 use Rattle.clear.specs.Zeroed.{zeroed}
-use Rattle.convert_frame.specs.Called.{scratchWords}
 
--- ---- words below the documented length do not count
+-- ---- words below a length do not count
 
 pub zeroed-set : (k : ℕ) (ws : List ℕ) (i v : ℕ) → i < k → zeroed k (set ws i v) ≡ zeroed k ws
 unfolding zeroed
@@ -22,11 +21,12 @@ zeroed-set (suc k) [] i v h = refl
 zeroed-set (suc k) (x ∷ ws) zero v h = refl
 zeroed-set (suc k) (x ∷ ws) (suc i) v h = ap (λ t. 0 ∷ t) (zeroed-set k ws i v (omega arith))
 
-pub zeroed-twice : (k : ℕ) (ws : List ℕ) → zeroed k (zeroed k ws) ≡ zeroed k ws
+pub zeroed-within : (k m : ℕ) (ws : List ℕ) → k ≤ m → zeroed m (zeroed k ws) ≡ zeroed m ws
 unfolding zeroed
-zeroed-twice zero ws = refl
-zeroed-twice (suc k) [] = refl
-zeroed-twice (suc k) (x ∷ ws) = ap (λ t. 0 ∷ t) (zeroed-twice k ws)
+zeroed-within zero m ws h = refl
+zeroed-within (suc k) zero ws h = absurd (not-suc-le-zero h)
+zeroed-within (suc k) (suc m) [] h = refl
+zeroed-within (suc k) (suc m) (x ∷ ws) h = ap (λ t. 0 ∷ t) (zeroed-within k m ws (omega arith))
 
 -- ---- nets along a file: each is marked by the stamp after the last, then written
 
@@ -65,12 +65,12 @@ module _ (s : List ℕ) (mark one : List ℕ → ℕ → ℕ → List ℕ) (end 
   bytes-done ws stamp at zero h = refl
   bytes-done ws stamp at (suc k) h = absurd (not-suc-le-zero h)
 
-  -- marks stay below the documented length
-  pub words-kept : ((ws : List ℕ) (stamp at : ℕ) → zeroed scratchWords (mark ws stamp at) ≡ zeroed scratchWords ws)
-      → (ws : List ℕ) (stamp at k : ℕ) → zeroed scratchWords (netsWords ws stamp at k) ≡ zeroed scratchWords ws
+  -- marks stay below a length
+  pub words-kept : (m : ℕ) → ((ws : List ℕ) (stamp at : ℕ) → zeroed m (mark ws stamp at) ≡ zeroed m ws)
+      → (ws : List ℕ) (stamp at k : ℕ) → zeroed m (netsWords ws stamp at k) ≡ zeroed m ws
   unfolding netsWords
-  words-kept h ws stamp at zero = refl
-  words-kept h ws stamp at (suc k) = words-kept h (mark ws (stamp + 1) at) (stamp + 1) (within s (end at)) k ∙ h ws (stamp + 1) at
+  words-kept m h ws stamp at zero = refl
+  words-kept m h ws stamp at (suc k) = words-kept m h (mark ws (stamp + 1) at) (stamp + 1) (within s (end at)) k ∙ h ws (stamp + 1) at
 
   -- what is written of nets inside a file, each of which is written right in a good scratch
   module _ {A : Type 0} (net : ℕ → A) (f : A → List ℕ) (Fits : A → Type 0) (Good : List ℕ → ℕ → Type 0) (up : (at : ℕ) → at ≤ end at)

@@ -68,7 +68,7 @@ module _ (Named : ℕ → Name → Type 0) (ws : List ℕ) (e : Engine) (m : Mea
           ∙ ap (λ (o : Option Port). number (orElse o r)) (sym (across-slots (graphOf e) (vacate (graphOf e) n) r (getD-set-other (graphOf e) n (r .node) none none d)))
 
   -- net k's list has one more stale entry
-  stale-means : (k : ℕ) → k < length (e .nets) → netAt e k .list .stale < 4294967295
+  pub stale-means : (k : ℕ) → k < length (e .nets) → netAt e k .list .stale < 4294967295
       → Means Named (set-net-word ws (k + 1) 6 (next (net-word ws (k + 1) 6))) (overNet (λ t. withList (withStale (t .list .stale + 1) (t .list)) t) k e)
   unfolding withList withStale netAt
   stale-means k h b =

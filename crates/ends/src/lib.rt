@@ -3,6 +3,7 @@ ghost use Prim.Native.Nat.{_+_};
 ghost use mathlib.Core.Path.{_≡_};
 ghost use Rattle.stored.specs.Stored.{tableEnd, listEnd, pathEnd, nameEnd, nodeEnd, ruleEnd, pairCountAt, nodeCountAt, flatNetEnd};
 ghost use Rattle.ends.specs.Ends.{within, on, next-net};
+ghost use Rattle.ends.specs.Whole.{whole-node};
 
 // k bytes on.
 pub fn on(s: &[u8], at: usize, k: usize) -> usize
@@ -78,6 +79,27 @@ pub fn node_end(s: &[u8], at: usize) -> usize
     ensures { λ r. ⌜ r ≡ within (now (s .entry)) (nodeEnd (now (s .entry)) at) ⌝ }
 {
     wires_end(s, name_end(s, at))
+}
+
+// Where a node's name ends; 0 where the node does not stand in the file as a whole.
+pub fn whole_node(s: &[u8], at: usize) -> usize
+    ensures { λ r. ⌜ r ≡ whole-node (now (s .entry)) at ⌝ }
+{
+    let n = s.len();
+    if n < 14 {
+        return 0;
+    }
+    if n - 14 < at {
+        return 0;
+    }
+    let e = at + 11 + 2 * (fields::byte(s, at + 10) as usize);
+    if n - 3 < e {
+        return 0;
+    }
+    if n - 3 - e < 2 * (fields::byte(s, e + 2) as usize) {
+        return 0;
+    }
+    e
 }
 
 // n nodes, one after another.

@@ -42,8 +42,9 @@ use Rattle.embed_walk_laws.specs.Sets.{sets-then}
 use Rattle.flat_nets.specs.declared.Total.{Total}
 use Rattle.flat_nets.specs.declared.Spot.{Spot}
 use Rattle.flat_nets.specs.Flat.{summedAll, netsOut}
-use Rattle.flat_nets_laws.specs.Nets.{most, Counted, Fits, most-fits, flatBytes, nets-written, nets-fit, nets-over, all-wires, all-to, all-out, linked-all-long, nodes-sum}
-use Rattle.flat_nets_laws.specs.Kept.{sums-kept, nets-kept}
+use Rattle.flat_nets_laws.specs.Clean.{Clean, clean-zeroed}
+use Rattle.flat_nets_laws.specs.Nets.{most, Counted, Fits, most-fits, flatBytes, nets-written, nets-fit, nets-over, all-wires, all-to, all-passed, all-out, nodes-sum}
+use Rattle.flat_nets_laws.specs.Kept.{zeroed-within, sums-kept, nets-kept}
 use Rattle.flat_from_tree.specs.Words.{place, first, count, total, totalLeft, wholeOut, wholeLeft, flatAnswer, flatLeft, flatOut, answer-over, left-over, out-over, answer-full, left-full, out-full, answer-done, left-done, out-done}
 
 -- ---- the nets of an accepted file
@@ -94,13 +95,19 @@ module _ (s ws : List ℕ) (b : Bytes s) (short : length s ≤ far) (l : scratch
 
   -- ---- measured
 
-  total-is : total s ws ≡ summedAll s ws (record { at = netCountAt s + 2; wires = 0; to = netCountAt s + 2 }) (be16 s (netCountAt s))
+  abbrev begun : List ℕ
+  begun = zeroed 65537 ws
+
+  begun-clean : Clean begun
+  begun-clean = clean-zeroed ws (omega arith)
+
+  total-is : total s ws ≡ summedAll s begun (record { at = netCountAt s + 2; wires = 0; to = netCountAt s + 2 }) (be16 s (netCountAt s))
   unfolding total
   total-is = rw (first-is, count-is)
 
   total-wires : total s ws .wires ≡ most nets 0
   unfolding nets
-  total-wires = ap (λ (t : Total). t .wires) total-is ∙ all-wires s b (be16 s (netCountAt s)) ws (omega arith) (record { at = netCountAt s + 2; wires = 0; to = netCountAt s + 2 }) inside counted-nets
+  total-wires = ap (λ (t : Total). t .wires) total-is ∙ all-wires s b (be16 s (netCountAt s)) begun (record { at = netCountAt s + 2; wires = 0; to = netCountAt s + 2 }) inside counted-nets
 
   fit-all : total s ws .wires ≤ 65536 → Each Fits nets
   fit-all h = most-fits nets 0 (rw (← total-wires) h) .1
@@ -129,7 +136,7 @@ module _ (s ws : List ℕ) (b : Bytes s) (short : length s ≤ far) (l : scratch
   total-to h =
       let i = count-inside tree treeNetAt treeNetEnd s (stands-tree-net s) b x e in
       ap (λ (t : Total). t .to) total-is
-      ∙ all-to s b (be16 s (netCountAt s)) ws (omega arith) (record { at = netCountAt s + 2; wires = 0; to = netCountAt s + 2 }) (omega arith) inside counted-nets (fit-all h)
+      ∙ all-to s b (be16 s (netCountAt s)) begun begun-clean (record { at = netCountAt s + 2; wires = 0; to = netCountAt s + 2 }) (omega arith) inside counted-nets (fit-all h)
       ∙ ap (min far) (sym result-long)
 
   written-is : write flat (withNets x (map flatOf (x .nets))) ≡ result
@@ -161,15 +168,15 @@ module _ (s ws : List ℕ) (b : Bytes s) (short : length s ≤ far) (l : scratch
 
   left-kept : zeroed scratchWords (totalLeft s ws) ≡ zeroed scratchWords ws
   unfolding totalLeft
-  left-kept = sums-kept scratchWords (omega arith) s b (count s) ws (record { at = first s; wires = 0; to = first s })
+  left-kept = sums-kept scratchWords (omega arith) s b (count s) begun (record { at = first s; wires = 0; to = first s }) ∙ zeroed-within 65537 scratchWords ws (omega arith)
 
   whole-kept : zeroed scratchWords (wholeLeft s (totalLeft s ws)) ≡ zeroed scratchWords ws
   unfolding wholeLeft
   whole-kept = nets-kept scratchWords (omega arith) s b (count s) (totalLeft s ws) (record { at = first s; to = first s }) ∙ left-kept
 
-  left-long : 65536 ≤ length (totalLeft s ws)
+  left-clean : Clean (totalLeft s ws)
   unfolding totalLeft
-  left-long = rw (linked-all-long s b (count s) ws (record { at = first s; wires = 0; to = first s })) (omega arith)
+  left-clean = all-passed s b (count s) begun begun-clean (record { at = first s; wires = 0; to = first s })
 
   whole-laid : (n : ℕ) (out : List ℕ) → total s ws .wires ≤ 65536 → n ≡ length result → n ≤ length out → length out ≤ far → wholeOut s (totalLeft s ws) n out ≡ sets out 0 result
   unfolding wholeOut nets result
@@ -179,7 +186,7 @@ module _ (s ws : List ℕ) (b : Bytes s) (short : length s ≤ far) (l : scratch
       let lh = head-long n in
       let p : Spot = record { at = netCountAt s + 2; to = netCountAt s + 2 } in
       (λ i. netsOut s (totalLeft s ws) (record { at = first-is i; to = first-is i }) (count-is i) (sets out 0 (headBytes s (place-is i) 1 (count-is i) n)))
-      ∙ all-out s b (be16 s (netCountAt s)) (totalLeft s ws) left-long p inside counted-nets (fit-all h) (sets out 0 head) (rw length-sets o) (omega arith)
+      ∙ all-out s b (be16 s (netCountAt s)) (totalLeft s ws) left-clean p inside counted-nets (fit-all h) (sets out 0 head) (rw length-sets o) (omega arith)
       ∙ sets-then out 0 (netCountAt s + 2) head (flatBytes nets) (omega arith)
       ∙ ap (sets out 0) (head-framed s 1 (be16 s (netCountAt s)) (flatBytes nets) n en)
 

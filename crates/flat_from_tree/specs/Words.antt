@@ -15,7 +15,7 @@ use Rattle.convert_frame.specs.declared.Converted.the-variants.{Written, Refuse
 use Rattle.convert_frame.specs.Head.{headBytes}
 use Rattle.convert_frame.specs.Called.{scratchWords}
 use Rattle.flat_nets.specs.declared.Total.{Total}
-use Rattle.flat_nets.specs.Flat.{summedAll, linkedAll, netsWords, netsOut}
+use Rattle.flat_nets.specs.Flat.{summedAll, passedAll, netsWords, netsOut}
 
 module _ (s : List ℕ) where
   -- the place of the nets' count, of the first net, in the file and in the result, and how many nets there are
@@ -28,12 +28,12 @@ module _ (s : List ℕ) where
   unfoldable pub count : ℕ
   count = be16 s place
 
-  -- the nets measured, and the words then
+  -- the nets measured, with no links in the words at first, and the words then
   unfoldable pub total : List ℕ → Total
-  total ws = summedAll s ws (record { at = first; wires = 0; to = first }) count
+  total ws = summedAll s (zeroed 65537 ws) (record { at = first; wires = 0; to = first }) count
 
   unfoldable pub totalLeft : List ℕ → List ℕ
-  totalLeft ws = linkedAll s ws (record { at = first; wires = 0; to = first }) count
+  totalLeft ws = passedAll s (zeroed 65537 ws) (record { at = first; wires = 0; to = first }) count
 
   -- the result of length n written, and the words then
   unfoldable pub wholeOut : List ℕ → ℕ → List ℕ → List ℕ

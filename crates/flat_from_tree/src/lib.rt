@@ -9,10 +9,11 @@ ghost use Rattle.conversions.specs.Calls.{toFlatCall};
 ghost use Rattle.convert_frame.specs.Called.{long, Called};
 ghost use Rattle.flat_from_tree.specs.Words.{total, totalLeft, wholeOut, wholeLeft, flatAnswer, flatLeft, flatOut};
 
-// The nets measured: the greatest wire counter among them, and how long the result is.
+// The nets measured, with a table without links at first, as it is then too: the greatest wire counter among them, and how long the result is.
 fn measure(s: &[u8], ws: &mut [u32]) -> Total
     ensures { λ r. ⌜ (r ≡ total (now (s .entry)) (now (ws .entry))) × (now (ws .exit) ≡ totalLeft (now (s .entry)) (now (ws .entry))) ⌝ }
 {
+    clear::clear_words(ws, 65537);
     let q = readers::net_count_at(s);
     let from = ends::on(s, q, 2);
     let n = fields::be16(s, q);

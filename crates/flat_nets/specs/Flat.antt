@@ -1,28 +1,33 @@
 -- Tree nets of a file as flat nets: each measured, then written. Level Words: the numbers, the table of links and the output.
 use Prim.Native.Nat.{ℕ, zero, suc, _+_, _*_, _%_}
 use mathlib.Core.List.{List, _++_}
+use lib.ListN.{set}
 use lib.Seq.{sets}
 use lib.Dec.{eqb}
 use Rattle.words.specs.Choose.{if-lt}
 use Rattle.net_file.specs.Write.{be, writeHead}
 use Rattle.fields.specs.Fields.{byte, be16}
 use Rattle.clear.specs.Zeroed.{zeroed}
-use Rattle.wire_links.specs.Table.{on, countPairs, pairsPlace, pairsBytes}
+use Rattle.wire_links.specs.Table.{on, extent, pairCount, pairsEnd, pairsOut}
 use Rattle.embed_nets.specs.Nets.{netWalked, netHung, netWritten}
 use Rattle.flat_nets.specs.declared.Measured.{Measured}
 use Rattle.flat_nets.specs.declared.Total.{Total}
 use Rattle.flat_nets.specs.declared.Spot.{Spot}
 
+-- the table without links again
+unfoldable pub emptied : List ℕ → List ℕ
+emptied ws = set (zeroed (extent ws 65536) ws) 65536 0
+
 module _ (s : List ℕ) where
-  -- the table with the links of the net at a place, and no others
+  -- the table with the links of the net at a place
   unfoldable pub linked : List ℕ → ℕ → List ℕ
-  linked ws at = netHung s (zeroed 65536 ws) at 0 0
+  linked ws at = netHung s ws at 0 0
 
   -- what that net takes as a flat one
   unfoldable pub measured : List ℕ → ℕ → Measured
   measured ws at =
       let g = netWalked s at 0 0 in
-      record { end = g .at; wires = g .wires; nodes = g .nodes; pairs = countPairs (linked ws at) (g .wires) (g .wires); bytes = g .to }
+      record { end = g .at; wires = g .wires; nodes = g .nodes; pairs = pairCount (linked ws at) (g .wires); bytes = g .to }
 
   -- and how many bytes: 12 for its head, its counts and its marks, 2 for a free wire, 4 for a pair, and its nodes
   unfoldable pub size : ℕ → Measured → ℕ
@@ -35,14 +40,18 @@ module _ (s : List ℕ) where
       let to = on (t .to) (size (t .at) m) in
       if-lt (t .wires) (m .wires) (record { at = m .end; wires = m .wires; to = to }) (record { at = m .end; wires = t .wires; to = to })
 
+  -- and the table without its links again
+  unfoldable pub passed : List ℕ → ℕ → List ℕ
+  passed ws at = emptied (linked ws at)
+
   -- n nets
   unfoldable pub summedAll : List ℕ → Total → ℕ → Total
   summedAll ws t zero = t
-  summedAll ws t (suc n) = summedAll (linked ws (t .at)) (summed ws t) n
+  summedAll ws t (suc n) = summedAll (passed ws (t .at)) (summed ws t) n
 
-  unfoldable pub linkedAll : List ℕ → Total → ℕ → List ℕ
-  linkedAll ws t zero = ws
-  linkedAll ws t (suc n) = linkedAll (linked ws (t .at)) (summed ws t) n
+  unfoldable pub passedAll : List ℕ → Total → ℕ → List ℕ
+  passedAll ws t zero = ws
+  passedAll ws t (suc n) = passedAll (passed ws (t .at)) (summed ws t) n
 
   -- name, included mark, wire counter, how many free wires
   unfoldable pub headOf : ℕ → ℕ → List ℕ
@@ -56,7 +65,7 @@ module _ (s : List ℕ) where
   pairsCountAt at to = on (on to 8) (2 * byte s (at + 7))
 
   unfoldable pub nodesCountAt : List ℕ → ℕ → ℕ → Measured → ℕ
-  nodesCountAt ws at to m = pairsPlace ws (m .wires) (m .wires) (on (pairsCountAt at to) 2)
+  nodesCountAt ws at to m = pairsEnd ws (m .wires) (on (pairsCountAt at to) 2)
 
   unfoldable pub beforePlace : List ℕ → ℕ → ℕ → Measured → ℕ
   beforePlace ws at to m = on (nodesCountAt ws at to m) 2
@@ -66,7 +75,7 @@ module _ (s : List ℕ) where
   beforeWritten ws at to m out =
       let c = pairsCountAt at to in
       let a = sets (headWritten at to (m .wires) out) c (be 2 (m .pairs % 65536)) in
-      sets (pairsBytes ws (m .wires) (m .wires) (on c 2) a) (nodesCountAt ws at to m) (be 2 (m .nodes % 65536))
+      sets (pairsOut ws (m .wires) (on c 2) a) (nodesCountAt ws at to m) (be 2 (m .nodes % 65536))
 
   -- the place of a net's nodes in the output
   unfoldable pub nodesAt : List ℕ → Spot → ℕ
@@ -77,7 +86,7 @@ module _ (s : List ℕ) where
   netSpot ws p = let g = netWalked s (p .at) (nodesAt ws p) (on (p .to) 8) in record { at = g .at; to = g .to }
 
   unfoldable pub netWords : List ℕ → Spot → List ℕ
-  netWords ws p = netHung s (linked ws (p .at)) (p .at) (nodesAt ws p) (on (p .to) 8)
+  netWords ws p = emptied (netHung s (linked ws (p .at)) (p .at) (nodesAt ws p) (on (p .to) 8))
 
   unfoldable pub netOut : List ℕ → Spot → List ℕ → List ℕ
   netOut ws p out =

@@ -16,7 +16,7 @@ use Rattle.wire_links.specs.Table.{on}
 use Rattle.flat_nets.specs.declared.Measured.{Measured}
 use Rattle.flat_nets.specs.declared.Total.{Total}
 use Rattle.flat_nets.specs.declared.Spot.{Spot}
-use Rattle.flat_nets.specs.Flat.{measured, linked, size, summed, summedAll, linkedAll, headOf, headWritten, netSpot, netWords, netOut, netsSpot, netsWords, netsOut}
+use Rattle.flat_nets.specs.Flat.{measured, passed, size, summed, summedAll, passedAll, headOf, headWritten, netSpot, netWords, netOut, netsSpot, netsWords, netsOut}
 
 module _ (s : List ℕ) where
   pub mark-one : (at b : ℕ) → b ≡ byte s (at + 2) → b ≡ 1 → 1 ≡ bit (eqb (byte s (at + 2)) 1)
@@ -40,7 +40,7 @@ module _ (s : List ℕ) where
     unfolding summed
     sum-no-greater h = rw (← em, ← ez, ← et) (lt-no _ _ _ _ h refl)
 
-  pub summed-more : (t u x : Total) (k : ℕ) (ws w : List ℕ) → summedAll s ws t k ≡ x → 0 < k → u ≡ summed s ws t → w ≡ linked s ws (t .at)
+  pub summed-more : (t u x : Total) (k : ℕ) (ws w : List ℕ) → summedAll s ws t k ≡ x → 0 < k → u ≡ summed s ws t → w ≡ passed s ws (t .at)
       → summedAll s w u (k - 1) ≡ x
   unfolding summedAll
   summed-more t u x zero ws w e h eu ew = absurd (not-suc-le-zero h)
@@ -51,16 +51,16 @@ module _ (s : List ℕ) where
   summed-done t x zero ws e h = e
   summed-done t x (suc k) ws e h = absurd (not-suc-le-zero h)
 
-  pub linked-more : (t u : Total) (k : ℕ) (ws w x : List ℕ) → linkedAll s ws t k ≡ x → 0 < k → u ≡ summed s ws t → w ≡ linked s ws (t .at)
-      → linkedAll s w u (k - 1) ≡ x
-  unfolding linkedAll
-  linked-more t u zero ws w x e h eu ew = absurd (not-suc-le-zero h)
-  linked-more t u (suc k) ws w x e h eu ew = rw (sub-one, eu, ew) e
+  pub passed-more : (t u : Total) (k : ℕ) (ws w x : List ℕ) → passedAll s ws t k ≡ x → 0 < k → u ≡ summed s ws t → w ≡ passed s ws (t .at)
+      → passedAll s w u (k - 1) ≡ x
+  unfolding passedAll
+  passed-more t u zero ws w x e h eu ew = absurd (not-suc-le-zero h)
+  passed-more t u (suc k) ws w x e h eu ew = rw (sub-one, eu, ew) e
 
-  pub linked-done : (t : Total) (k : ℕ) (ws x : List ℕ) → linkedAll s ws t k ≡ x → k ≤ 0 → ws ≡ x
-  unfolding linkedAll
-  linked-done t zero ws x e h = e
-  linked-done t (suc k) ws x e h = absurd (not-suc-le-zero h)
+  pub passed-done : (t : Total) (k : ℕ) (ws x : List ℕ) → passedAll s ws t k ≡ x → k ≤ 0 → ws ≡ x
+  unfolding passedAll
+  passed-done t zero ws x e h = e
+  passed-done t (suc k) ws x e h = absurd (not-suc-le-zero h)
 
   pub spot-more : (p q x : Spot) (k : ℕ) (ws w : List ℕ) → netsSpot s ws p k ≡ x → 0 < k → q ≡ netSpot s ws p → w ≡ netWords s ws p
       → netsSpot s w q (k - 1) ≡ x

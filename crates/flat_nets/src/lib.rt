@@ -4,7 +4,7 @@ ghost use lib.Dec.{eqb};
 ghost use Prim.Native.Nat.{_+_};
 ghost use Rattle.net_file.specs.Lists.{bit};
 ghost use Rattle.fields.specs.Fields.{byte};
-ghost use Rattle.flat_nets.specs.Flat.{measured, linked, size, summed, summedAll, linkedAll, headWritten, beforePlace, beforeWritten, netSpot, netWords, netOut, netsSpot, netsWords, netsOut};
+ghost use Rattle.flat_nets.specs.Flat.{measured, linked, emptied, size, summed, passed, summedAll, passedAll, headWritten, beforePlace, beforeWritten, netSpot, netWords, netOut, netsSpot, netsWords, netsOut};
 ghost use Rattle.wire_links.specs.Table.{on};
 
 // ---- measured
@@ -18,12 +18,20 @@ pub struct Measured {
     pub bytes: usize,
 }
 
-// The net at a place. Its links are in the table then.
+// The table without links again. To clear all 65,536 words would take longer than a usual net.
+fn empty(ws: &mut [u32])
+    ensures { λ _. ⌜ now (ws .exit) ≡ emptied (now (ws .entry)) ⌝ }
+{
+    let e = wire_links::extent(ws, 65536);
+    clear::clear_words(ws, e as usize);
+    words::put(ws, 65536, 0)
+}
+
+// The net at a place, with a table without links. Its links are in the table then.
 fn measure_net(s: &[u8], ws: &mut [u32], at: usize) -> Measured
     ensures { λ r. ⌜ (r ≡ measured (now (s .entry)) (now (ws .entry)) at) × (now (ws .exit) ≡ linked (now (s .entry)) (now (ws .entry)) at) ⌝ }
 {
     let mut none = [0u8; 1];
-    clear::clear_words(ws, 65536);
     let g = embed_nets::embed_net(s, ws, &mut none, at, 0, 0);
     let pairs = wire_links::count_pairs(ws, g.wires);
     Measured {
@@ -53,9 +61,10 @@ pub struct Total {
 
 // One net more.
 fn sum(s: &[u8], ws: &mut [u32], t: Total) -> Total
-    ensures { λ r. ⌜ (r ≡ summed (now (s .entry)) (now (ws .entry)) t) × (now (ws .exit) ≡ linked (now (s .entry)) (now (ws .entry)) (t .at)) ⌝ }
+    ensures { λ r. ⌜ (r ≡ summed (now (s .entry)) (now (ws .entry)) t) × (now (ws .exit) ≡ passed (now (s .entry)) (now (ws .entry)) (t .at)) ⌝ }
 {
     let m = measure_net(s, ws, t.at);
+    empty(ws);
     let to = wire_links::on(t.to, size(s, t.at, m));
     if t.wires < m.wires {
         return Total {
@@ -73,7 +82,7 @@ fn sum(s: &[u8], ws: &mut [u32], t: Total) -> Total
 
 // n nets, one after another.
 pub fn measure_nets(s: &[u8], ws: &mut [u32], from: usize, n: u32, to: usize) -> Total
-    ensures { λ r. ⌜ (r ≡ summedAll (now (s .entry)) (now (ws .entry)) (record { at = from; wires = 0; to = to }) n) × (now (ws .exit) ≡ linkedAll (now (s .entry)) (now (ws .entry)) (record { at = from; wires = 0; to = to }) n) ⌝ }
+    ensures { λ r. ⌜ (r ≡ summedAll (now (s .entry)) (now (ws .entry)) (record { at = from; wires = 0; to = to }) n) × (now (ws .exit) ≡ passedAll (now (s .entry)) (now (ws .entry)) (record { at = from; wires = 0; to = to }) n) ⌝ }
 {
     let mut t = Total {
         at: from,
@@ -139,6 +148,7 @@ fn write_net(s: &[u8], ws: &mut [u32], out: &mut [u8], p: Spot) -> Spot
     let nodes = write_before(s, ws, out, p.at, p.to, m);
     let free = wire_links::on(p.to, 8);
     let g = embed_nets::embed_net(s, ws, out, p.at, nodes, free);
+    empty(ws);
     Spot { at: g.at, to: g.to }
 }
 

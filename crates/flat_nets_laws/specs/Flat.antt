@@ -14,11 +14,11 @@ use Rattle.fields.specs.Fields.{byte, be16, be32}
 use Rattle.stored_tree.specs.Tree.{treeEnd, treeAt, treeNetAt, treeNetEnd}
 use Rattle.put.specs.Written.{numbers}
 use Rattle.put.specs.Fields.{size-numbers}
-use Rattle.clear.specs.Zeroed.{zeroed}
 use Rattle.text_writers.specs.Wrote.{far, Wrote}
 use Rattle.conversions.specs.Links.{pairsOf}
-use Rattle.wire_links.specs.Table.{on, countPairs, pairsBytes}
+use Rattle.wire_links.specs.Table.{on, extent, pairCount, pairsEnd, pairsOut}
 use Rattle.wire_links_laws.specs.Means.{Means}
+use Rattle.wire_links_laws.specs.Top.{extent-least, pairs-scanned}
 use Rattle.wire_links_laws.specs.Pairs.{pairsIn, pairs-mean, pairs-counted, pairs-wrote}
 use Rattle.embed_laws.specs.Numbers.{tops, flatsAll}
 use Rattle.embed_laws.specs.Nets.{freeWires, flatWires, flatLinks, flatNodes, flatOf, linksFlats}
@@ -27,7 +27,8 @@ use Rattle.embed_walk_laws.specs.Sets.{sets-comm, sets-then}
 use Rattle.flat_nets.specs.declared.Spot.{Spot}
 use Rattle.flat_nets.specs.Flat.{linked, measured, size, headOf, headWritten, pairsCountAt, nodesCountAt, beforePlace, beforeWritten, nodesAt, netSpot, netOut}
 use Rattle.flat_nets_laws.specs.Links.{linksBytes, links-size}
-use Rattle.flat_nets_laws.specs.Net.{nodeCount, nodeBytes, nodes-long, no-links, net-end, net-wires, net-nodes, net-to, net-means, net-laid}
+use Rattle.flat_nets_laws.specs.Clean.{Clean, clean-means, linked-topped}
+use Rattle.flat_nets_laws.specs.Net.{nodeCount, nodeBytes, nodes-long, net-end, net-wires, net-nodes, net-to, net-means, net-laid}
 
 -- the bytes of a net's nodes
 pub nodes-size : (n : TreeNet) → length (concatMap writeNode (flatNodes n)) ≡ nodeBytes n
@@ -99,7 +100,7 @@ middle-late y a c n f p z e g = ap (λ (x : List ℕ). sets x n z) (sets-comm y 
 
 -- ---- measured
 
-module _ (s : List ℕ) (bytes : Bytes s) (at : ℕ) (inside : treeNetEnd s at ≤ length s) (low : be32 s (at + 3) ≤ 65536) (ws : List ℕ) (long : 65536 ≤ length ws) where
+module _ (s : List ℕ) (bytes : Bytes s) (at : ℕ) (inside : treeNetEnd s at ≤ length s) (low : be32 s (at + 3) ≤ 65536) (ws : List ℕ) where
   abbrev net : TreeNet
   net = treeNetAt s at
 
@@ -123,24 +124,30 @@ module _ (s : List ℕ) (bytes : Bytes s) (at : ℕ) (inside : treeNetEnd s at �
   unfolding treeNetAt
   free-many = tops-long (trees (net .free)) (net .wires) ∙ kids-long s (at + 8) (treeAt s 64) (treeEnd s 64) (byte s (at + 7))
 
-  pairs-of : measured s ws at .pairs ≡ countPairs (linked s ws at) (measured s ws at .wires) (measured s ws at .wires)
+  pairs-of : measured s ws at .pairs ≡ pairCount (linked s ws at) (measured s ws at .wires)
   unfolding measured
   pairs-of = refl
 
-  -- where its wires fit
-  module _ (fits : flatWires net ≤ 65536) where
+  -- where its wires fit, and the table is without links
+  module _ (fits : flatWires net ≤ 65536) (clean : Clean ws) where
     fit-wires : measured s ws at .wires ≡ flatWires net
     fit-wires = let w = measured-wires in omega arith
 
     linked-means : Means (linked s ws at) (flatLinks net)
     unfolding linked
-    linked-means = net-means s bytes at inside low 0 0 (omega arith) fits (zeroed 65536 ws) (no-links ws long)
+    linked-means = net-means s bytes at inside low 0 0 (omega arith) fits ws (clean-means ws clean)
 
-    linked-pairs : pairsIn (linked s ws at) (flatWires net) (flatWires net) ≡ flatPairs net
-    linked-pairs = pairs-mean (linked s ws at) (flatLinks net) linked-means (flatWires net) fits
+    -- how far it is looked for pairs
+    abbrev e : ℕ
+    e = extent (linked s ws at) (flatWires net)
+
+    linked-pairs : pairsIn (linked s ws at) e e ≡ flatPairs net
+    linked-pairs =
+        pairs-scanned (linked s ws at) (linked-topped s bytes ws clean at) (flatWires net) fits ∙ pairs-mean (linked s ws at) (flatLinks net) linked-means (flatWires net) fits
 
     measured-pairs : measured s ws at .pairs ≡ length (flatPairs net)
-    measured-pairs = pairs-of ∙ ap (λ k. countPairs (linked s ws at) k k) fit-wires ∙ pairs-counted (linked s ws at) (flatWires net) (flatWires net) (omega arith) ∙ ap length linked-pairs
+    unfolding pairCount
+    measured-pairs = pairs-of ∙ ap (pairCount (linked s ws at)) fit-wires ∙ pairs-counted (linked s ws at) e e (omega arith) ∙ ap length linked-pairs
 
     -- how many bytes it takes, as far as that can be said
     pub size-is : size s at (measured s ws at) ≡ min far (length (writeFlatNet (flatOf net)))
@@ -178,12 +185,13 @@ module _ (s : List ℕ) (bytes : Bytes s) (at : ℕ) (inside : treeNetEnd s at �
 
       -- the pairs, after anything
       pairs-laid : (o : List ℕ) → length o ≤ far → Wrote (concatMap writePair (flatPairs net)) (pairsCountAt s at to + 2) o
-          (pairsBytes (linked s ws at) (measured s ws at .wires) (measured s ws at .wires) (on (pairsCountAt s at to) 2) o) (nodesCountAt s (linked s ws at) at to (measured s ws at))
-      unfolding nodesCountAt
+          (pairsOut (linked s ws at) (measured s ws at .wires) (on (pairsCountAt s at to) 2) o) (nodesCountAt s (linked s ws at) at to (measured s ws at))
+      unfolding nodesCountAt pairsEnd pairsOut
       pairs-laid o l =
           let q = all-said in
           let c = counts-place in
-          rw (pairs-place, fit-wires, ← linked-pairs) (pairs-wrote (linked s ws at) words-low (flatWires net) (flatWires net) (pairsCountAt s at to + 2) o fits (omega arith) (omega arith) l)
+          let m = extent-least (linked s ws at) (flatWires net) in
+          rw (pairs-place, fit-wires, ← linked-pairs) (pairs-wrote (linked s ws at) words-low e e (pairsCountAt s at to + 2) o (omega arith) (omega arith) (omega arith) l)
 
       count-place : nodesCountAt s (linked s ws at) at to (measured s ws at) ≡ pairsCountAt s at to + 2 + length (concatMap writePair (flatPairs net))
       count-place =

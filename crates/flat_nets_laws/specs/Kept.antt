@@ -5,19 +5,20 @@ use mathlib.Core.List.{List, [], _∷_}
 use native.Mathlib.Omega.{arith}
 use native.Mathlib.Nat.{not-suc-le-zero}
 use lib.ListN.{set}
-use Rattle.words.specs.Choose.{eq-split}
+use Rattle.words.specs.Choose.{eq-split, lt-split}
 use Rattle.net_file_laws.specs.Bytes.{Bytes}
 use Rattle.fields.specs.Fields.{be16}
 use Rattle.clear.specs.Zeroed.{zeroed}
-use Rattle.wire_links.specs.Table.{far, join, link}
+use Rattle.wire_links.specs.Table.{far, raised, join, link, extent}
+use Rattle.wire_links_laws.specs.Top.{extent-least}
 use Rattle.embed.specs.declared.Growth.{Growth}
 use Rattle.embed_nets.specs.Nets.{hung, leftWalked, linkHung, linksHung, linkWalked, netHung}
 use Rattle.flat_nets.specs.declared.Total.{Total}
 use Rattle.flat_nets.specs.declared.Spot.{Spot}
-use Rattle.flat_nets.specs.Flat.{linked, summed, linkedAll, netSpot, netWords, netsWords}
+use Rattle.flat_nets.specs.Flat.{linked, emptied, passed, summed, passedAll, netSpot, netWords, netsWords}
 use Rattle.flat_nets_laws.specs.Links.{two-low, top-low}
 
-zeroed-within : (k m : ℕ) (ws : List ℕ) → k ≤ m → zeroed m (zeroed k ws) ≡ zeroed m ws
+pub zeroed-within : (k m : ℕ) (ws : List ℕ) → k ≤ m → zeroed m (zeroed k ws) ≡ zeroed m ws
 unfolding zeroed
 zeroed-within zero m ws h = refl
 zeroed-within (suc k) zero ws h = absurd (not-suc-le-zero h)
@@ -35,12 +36,16 @@ far-low : (ws : List ℕ) (a : ℕ) → a < 65536 → far ws a < 65536
 unfolding far
 far-low ws a h = eq-split _ _ _ _ (λ (x : ℕ). x < 65536) (λ e. h) (λ e. omega arith)
 
-module _ (m : ℕ) (wide : 65536 ≤ m) where
+module _ (m : ℕ) (wide : 65537 ≤ m) where
+  raised-kept : (ws : List ℕ) (x : ℕ) → zeroed m (raised ws x) ≡ zeroed m ws
+  unfolding raised
+  raised-kept ws x = lt-split _ _ _ _ (λ (l : List ℕ). zeroed m l ≡ zeroed m ws) (λ h. refl) (λ h. zeroed-put m ws 65536 (x + 1) (omega arith))
+
   join-kept : (ws : List ℕ) (x y : ℕ) → x < 65536 → y < 65536 → zeroed m (join ws x y) ≡ zeroed m ws
   unfolding join
   join-kept ws x y h k =
       eq-split _ _ _ _ (λ (l : List ℕ). zeroed m l ≡ zeroed m ws) (λ e. refl)
-      (λ e. zeroed-put m (set ws x (y + 1)) y (x + 1) (omega arith) ∙ zeroed-put m ws x (y + 1) (omega arith))
+      (λ e. raised-kept _ y ∙ raised-kept _ x ∙ zeroed-put m (set ws x (y + 1)) y (x + 1) (omega arith) ∙ zeroed-put m ws x (y + 1) (omega arith))
 
   link-kept : (ws : List ℕ) (a b : ℕ) → a < 65536 → b < 65536 → zeroed m (link ws a b) ≡ zeroed m ws
   unfolding link
@@ -64,16 +69,20 @@ module _ (m : ℕ) (wide : 65536 ≤ m) where
 
     linked-kept : (ws : List ℕ) (at : ℕ) → zeroed m (linked s ws at) ≡ zeroed m ws
     unfolding linked
-    linked-kept ws at = net-kept (zeroed 65536 ws) at 0 0 ∙ zeroed-within 65536 m ws wide
+    linked-kept ws at = net-kept ws at 0 0
 
-    pub sums-kept : (k : ℕ) (ws : List ℕ) (t : Total) → zeroed m (linkedAll s ws t k) ≡ zeroed m ws
-    unfolding linkedAll
+    emptied-kept : (ws : List ℕ) → zeroed m (emptied ws) ≡ zeroed m ws
+    unfolding emptied
+    emptied-kept ws = zeroed-put m (zeroed (extent ws 65536) ws) 65536 0 (omega arith) ∙ zeroed-within (extent ws 65536) m ws (omega (arith, extent-least ws 65536))
+
+    pub sums-kept : (k : ℕ) (ws : List ℕ) (t : Total) → zeroed m (passedAll s ws t k) ≡ zeroed m ws
+    unfolding passedAll passed
     sums-kept zero ws t = refl
-    sums-kept (suc k) ws t = sums-kept k (linked s ws (t .at)) (summed s ws t) ∙ linked-kept ws (t .at)
+    sums-kept (suc k) ws t = sums-kept k (passed s ws (t .at)) (summed s ws t) ∙ emptied-kept (linked s ws (t .at)) ∙ linked-kept ws (t .at)
 
     words-kept : (ws : List ℕ) (p : Spot) → zeroed m (netWords s ws p) ≡ zeroed m ws
     unfolding netWords
-    words-kept ws p = net-kept (linked s ws (p .at)) (p .at) _ _ ∙ linked-kept ws (p .at)
+    words-kept ws p = emptied-kept _ ∙ net-kept (linked s ws (p .at)) (p .at) _ _ ∙ linked-kept ws (p .at)
 
     pub nets-kept : (k : ℕ) (ws : List ℕ) (p : Spot) → zeroed m (netsWords s ws p k) ≡ zeroed m ws
     unfolding netsWords

@@ -1,4 +1,5 @@
 pub mod Links
+pub mod Clean
 pub mod Net
 pub mod Flat
 pub mod Nets

@@ -4,8 +4,7 @@ use mathlib.Core.Path.{_≡_, refl, sym, ap, _∙_, subst}
 use mathlib.Core.Option.{Option, none, some}
 use mathlib.Core.List.{List, [], _∷_}
 use native.Mathlib.Omega.{arith}
-use native.Mathlib.Nat.{not-suc-le-zero}
-use lib.ListN.{length, getD, length-append}
+use lib.ListN.{length, length-append}
 use lib.Seq.{sets}
 use Rattle.net_file.specs.Lists.{concatMap}
 use Rattle.net_file.specs.Values.{Tree, wire, node, Trees, more, trees, TreeNet}
@@ -18,10 +17,8 @@ use Rattle.stored.specs.Stored.{tableAt, tableEnd}
 use Rattle.stored_tree.specs.Tree.{treeEnd, treeAt, linkAt, linkEnd, linkCountAt, treeNetAt, treeNetEnd}
 use Rattle.tree_laws.specs.Places.{links-past, net-past}
 use Rattle.put.specs.Written.{numbers}
-use Rattle.clear.specs.Zeroed.{zeroed}
 use Rattle.text_writers.specs.Wrote.{far}
-use Rattle.conversions.specs.Links.{get}
-use Rattle.wire_links_laws.specs.Means.{code, Means}
+use Rattle.wire_links_laws.specs.Means.{Means}
 use Rattle.embed.specs.Embed.{writtenAll}
 use Rattle.embed_laws.specs.Numbers.{after, tops, flats, flatsAll}
 use Rattle.embed_laws.specs.Nets.{leftTop, linkTaken, linksTaken, linkFlats, linksFlats, linksHangs, freeWires, flatWires, flatLinks, flatNodes}
@@ -66,25 +63,6 @@ unfolding flatNodes nodeCount
 nodes-long n =
     length-append (flatsAll (trees (n .free)) (n .wires)) (linksFlats (n .links) (freeWires n))
     ∙ omega (arith, flats-all-long (trees (n .free)) (n .wires), links-long (n .links) (freeWires n))
-
--- ---- an empty table
-
-zeroed-word : (k : ℕ) (xs : List ℕ) (a : ℕ) → a < k → getD (zeroed k xs) a 0 ≡ 0
-unfolding zeroed
-zeroed-word zero xs a h = absurd (not-suc-le-zero h)
-zeroed-word (suc k) [] a h = refl
-zeroed-word (suc k) (x ∷ xs) zero h = refl
-zeroed-word (suc k) (x ∷ xs) (suc a) h = zeroed-word k xs a (omega arith)
-
-pub zeroed-long : (k : ℕ) (xs : List ℕ) → length (zeroed k xs) ≡ length xs
-unfolding zeroed
-zeroed-long zero xs = refl
-zeroed-long (suc k) [] = refl
-zeroed-long (suc k) (x ∷ xs) = ap suc (zeroed-long k xs)
-
-pub no-links : (ws : List ℕ) → 65536 ≤ length ws → Means (zeroed 65536 ws) []
-unfolding code get
-no-links ws h = record { long = rw (zeroed-long 65536 ws) h; word = λ a l. zeroed-word 65536 ws a l; low = λ a l. omega arith }
 
 -- ---- the net at a place
 

@@ -4,9 +4,9 @@ use mathlib.Core.Path.{_≡_, refl, ap, _∙_}
 use mathlib.Core.List.{List, [], _∷_, _++_, map}
 use native.Mathlib.Omega.{arith}
 use native.Mathlib.Decide.{decLt}
-use lib.ListN.{length, length-append, length-set}
+use lib.ListN.{length, length-append}
 use lib.Seq.{sets, length-sets}
-use Rattle.words.specs.Choose.{eq-split, lt-split}
+use Rattle.words.specs.Choose.{lt-split}
 use Rattle.net_file.specs.Lists.{ok, refuse, concatMap, sum}
 use Rattle.net_file.specs.Values.{Tree, trees, TreeNet}
 use Rattle.net_file.specs.Write.{writeFlatNet}
@@ -18,20 +18,18 @@ use Rattle.stored.specs.Stored.{tableAt, tableEnd}
 use Rattle.stored_tree.specs.Tree.{treeNetAt, treeNetEnd}
 use Rattle.ends.specs.Ends.{table-up}
 use Rattle.tree_laws.specs.Places.{net-up}
-use Rattle.clear.specs.Zeroed.{zeroed}
 use Rattle.text_writers.specs.Wrote.{far}
 use Rattle.conversions.specs.Convert.{toFlat}
 use Rattle.conversions.specs.Calls.{mapNets}
-use Rattle.wire_links.specs.Table.{on, join, link}
+use Rattle.wire_links.specs.Table.{on}
 use Rattle.embed_laws.specs.Nets.{flatWires, flatOf, flat-fits, flat-over}
 use Rattle.embed_walk_laws.specs.Sets.{sets-then}
-use Rattle.embed.specs.declared.Growth.{Growth}
-use Rattle.embed_nets.specs.Nets.{hung, linkHung, linksHung, linkWalked, netHung}
 use Rattle.flat_nets.specs.declared.Total.{Total}
 use Rattle.flat_nets.specs.declared.Spot.{Spot}
-use Rattle.flat_nets.specs.Flat.{linked, summed, summedAll, linkedAll, netSpot, netWords, netOut, netsWords, netsOut}
+use Rattle.flat_nets.specs.Flat.{passed, summed, summedAll, passedAll, netSpot, netWords, netOut, netsOut}
 use Rattle.flat_nets_laws.specs.Links.{linkNodes, linksNodes}
-use Rattle.flat_nets_laws.specs.Net.{nodeCount, zeroed-long}
+use Rattle.flat_nets_laws.specs.Clean.{Clean, passed-clean, words-clean}
+use Rattle.flat_nets_laws.specs.Net.{nodeCount}
 use Rattle.flat_nets_laws.specs.Flat.{measured-end, measured-wires, size-is, net-out, spot-at, spot-to}
 
 -- ---- the definitions, net by net
@@ -76,38 +74,6 @@ nets-over (n ∷ ns) w c l h = elim (decLt 65536 (flatWires n)) [
   | no k ↦ rw (flat-fits n (omega arith), nets-over ns (max w (min 65537 (flatWires n))) (c .1) (omega arith) h)
 ]
 
--- ---- the table stays as long
-
-join-long : (ws : List ℕ) (x y : ℕ) → length (join ws x y) ≡ length ws
-unfolding join
-join-long ws x y = eq-split _ _ _ _ (λ (l : List ℕ). length l ≡ length ws) (λ e. refl) (λ e. rw (length-set, length-set))
-
-link-long : (ws : List ℕ) (a b : ℕ) → length (link ws a b) ≡ length ws
-unfolding link
-link-long ws a b = rw (join-long, length-set, length-set)
-
-module _ (s : List ℕ) where
-  hung-long : (ws : List ℕ) (a : Growth) → length (hung s ws a) ≡ length ws
-  unfolding hung
-  hung-long ws a = eq-split _ _ _ _ (λ (l : List ℕ). length l ≡ length ws) (λ e. link-long ws _ _) (λ e. refl)
-
-  links-long : (k : ℕ) (ws : List ℕ) (g : Growth) → length (linksHung s ws g k) ≡ length ws
-  unfolding linksHung linkHung
-  links-long zero ws g = refl
-  links-long (suc k) ws g = links-long k (linkHung s ws g) (linkWalked s g) ∙ hung-long ws _
-
-  net-long : (ws : List ℕ) (at to aux : ℕ) → length (netHung s ws at to aux) ≡ length ws
-  unfolding netHung
-  net-long ws at to aux = links-long _ ws _
-
-  linked-long : (ws : List ℕ) (at : ℕ) → length (linked s ws at) ≡ length ws
-  unfolding linked
-  linked-long ws at = net-long (zeroed 65536 ws) at 0 0 ∙ zeroed-long 65536 ws
-
-  words-long : (ws : List ℕ) (p : Spot) → length (netWords s ws p) ≡ length ws
-  unfolding netWords
-  words-long ws p = net-long (linked s ws (p .at)) (p .at) _ _ ∙ linked-long ws (p .at)
-
 -- ---- measured
 
 module _ (s : List ℕ) (bytes : Bytes s) where
@@ -117,94 +83,89 @@ module _ (s : List ℕ) (bytes : Bytes s) where
   first-inside : (a k : ℕ) → tableEnd (treeNetEnd s) (treeNetEnd s a) k ≤ length s → treeNetEnd s a ≤ length s
   first-inside a k i = let u = table-up (treeNetEnd s) (net-up s) (treeNetEnd s a) k in omega arith
 
-  module _ (ws : List ℕ) (long : 65536 ≤ length ws) (t : Total) (i : treeNetEnd s (t .at) ≤ length s) (c : Counted (treeNetAt s (t .at))) where
+  module _ (ws : List ℕ) (t : Total) (i : treeNetEnd s (t .at) ≤ length s) (c : Counted (treeNetAt s (t .at))) where
     counter-low : be32 s (t .at + 3) ≤ 65536
     unfolding treeNetAt
     counter-low = c .0
 
     summed-at : summed s ws t .at ≡ treeNetEnd s (t .at)
     unfolding summed
-    summed-at = lt-split _ _ _ _ (λ (x : Total). x .at ≡ treeNetEnd s (t .at)) (λ h. measured-end s bytes (t .at) i counter-low ws long) (λ h. measured-end s bytes (t .at) i counter-low ws long)
+    summed-at = lt-split _ _ _ _ (λ (x : Total). x .at ≡ treeNetEnd s (t .at)) (λ h. measured-end s bytes (t .at) i counter-low ws) (λ h. measured-end s bytes (t .at) i counter-low ws)
 
     summed-wires : summed s ws t .wires ≡ max (t .wires) (min 65537 (flatWires (treeNetAt s (t .at))))
     unfolding summed
     summed-wires =
-        let m = measured-wires s bytes (t .at) i counter-low ws long in
+        let m = measured-wires s bytes (t .at) i counter-low ws in
         lt-split _ _ _ _ (λ (x : Total). x .wires ≡ max (t .wires) (min 65537 (flatWires (treeNetAt s (t .at))))) (λ h. omega arith) (λ h. omega arith)
 
-    summed-to : Fits (treeNetAt s (t .at)) → summed s ws t .to ≡ min far (t .to + length (writeFlatNet (flatOf (treeNetAt s (t .at)))))
+    summed-to : Fits (treeNetAt s (t .at)) → Clean ws → summed s ws t .to ≡ min far (t .to + length (writeFlatNet (flatOf (treeNetAt s (t .at)))))
     unfolding summed on
-    summed-to f =
-        let z = size-is s bytes (t .at) i counter-low ws long f in
+    summed-to f clean =
+        let z = size-is s bytes (t .at) i counter-low ws f clean in
         lt-split _ _ _ _ (λ (x : Total). x .to ≡ min far (t .to + length (writeFlatNet (flatOf (treeNetAt s (t .at)))))) (λ h. omega arith) (λ h. omega arith)
 
   most-as : (k : ℕ) {p e n m : ℕ} → p ≡ e → n ≡ m → most (netsFrom p k) n ≡ most (netsFrom e k) m
   most-as k ep en = rw (ep, en)
 
   -- the greatest counter
-  pub all-wires : (k : ℕ) (ws : List ℕ) → 65536 ≤ length ws → (t : Total) → tableEnd (treeNetEnd s) (t .at) k ≤ length s → Each Counted (netsFrom (t .at) k)
+  pub all-wires : (k : ℕ) (ws : List ℕ) (t : Total) → tableEnd (treeNetEnd s) (t .at) k ≤ length s → Each Counted (netsFrom (t .at) k)
       → summedAll s ws t k .wires ≡ most (netsFrom (t .at) k) (t .wires)
   unfolding summedAll tableAt tableEnd most
-  all-wires zero ws long t i c = refl
-  all-wires (suc k) ws long t i c =
+  all-wires zero ws t i c = refl
+  all-wires (suc k) ws t i c =
       let j = first-inside (t .at) k i in
       let x = summed s ws t in
-      let e = summed-at ws long t j (c .0) in
+      let e = summed-at ws t j (c .0) in
       let d : Each Counted (netsFrom (x .at) k) = rw e (c .1) in
-      all-wires k (linked s ws (t .at)) (rw (linked-long s ws (t .at)) long) x (rw e i) d ∙ most-as k e (summed-wires ws long t j (c .0))
+      all-wires k (passed s ws (t .at)) x (rw e i) d ∙ most-as k e (summed-wires ws t j (c .0))
 
   -- how long they are, where all fit
-  pub all-to : (k : ℕ) (ws : List ℕ) → 65536 ≤ length ws → (t : Total) → t .to ≤ far → tableEnd (treeNetEnd s) (t .at) k ≤ length s → Each Counted (netsFrom (t .at) k) → Each Fits (netsFrom (t .at) k)
+  pub all-to : (k : ℕ) (ws : List ℕ) → Clean ws → (t : Total) → t .to ≤ far → tableEnd (treeNetEnd s) (t .at) k ≤ length s → Each Counted (netsFrom (t .at) k) → Each Fits (netsFrom (t .at) k)
       → summedAll s ws t k .to ≡ min far (t .to + length (flatBytes (netsFrom (t .at) k)))
   unfolding summedAll tableAt tableEnd flatBytes
-  all-to zero ws long t h i c f = omega arith
-  all-to (suc k) ws long t h i c f =
+  all-to zero ws clean t h i c f = omega arith
+  all-to (suc k) ws clean t h i c f =
       let j = first-inside (t .at) k i in
       let x = summed s ws t in
-      let e = summed-at ws long t j (c .0) in
+      let e = summed-at ws t j (c .0) in
       let d : Each Counted (netsFrom (x .at) k) = rw e (c .1) in
       let g : Each Fits (netsFrom (x .at) k) = rw e (f .1) in
-      let o = summed-to ws long t j (c .0) (f .0) in
+      let o = summed-to ws t j (c .0) (f .0) clean in
       let y = writeFlatNet (flatOf (treeNetAt s (t .at))) in
       let l = length-append y (flatBytes (netsFrom (treeNetEnd s (t .at)) k)) in
-      let r = all-to k (linked s ws (t .at)) (rw (linked-long s ws (t .at)) long) x (omega arith) (rw e i) d g in
+      let r = all-to k (passed s ws (t .at)) (passed-clean s bytes ws clean (t .at)) x (omega arith) (rw e i) d g in
       r ∙ ap (λ p. min far (x .to + length (flatBytes (netsFrom p k)))) e ∙ omega arith
+
+  -- the table is without links again
+  pub all-passed : (k : ℕ) (ws : List ℕ) → Clean ws → (t : Total) → Clean (passedAll s ws t k)
+  unfolding passedAll
+  all-passed zero ws clean t = clean
+  all-passed (suc k) ws clean t = all-passed k (passed s ws (t .at)) (passed-clean s bytes ws clean (t .at)) (summed s ws t)
 
   -- ---- written
 
-  pub all-out : (k : ℕ) (ws : List ℕ) → 65536 ≤ length ws → (p : Spot) → tableEnd (treeNetEnd s) (p .at) k ≤ length s → Each Counted (netsFrom (p .at) k) → Each Fits (netsFrom (p .at) k)
+  pub all-out : (k : ℕ) (ws : List ℕ) → Clean ws → (p : Spot) → tableEnd (treeNetEnd s) (p .at) k ≤ length s → Each Counted (netsFrom (p .at) k) → Each Fits (netsFrom (p .at) k)
       → (out : List ℕ) → length out ≤ far → p .to + length (flatBytes (netsFrom (p .at) k)) ≤ far
       → netsOut s ws p k out ≡ sets out (p .to) (flatBytes (netsFrom (p .at) k))
   unfolding netsOut tableAt tableEnd flatBytes
-  all-out zero ws long p i c f out room said = refl
-  all-out (suc k) ws long p i c f out room said =
+  all-out zero ws clean p i c f out room said = refl
+  all-out (suc k) ws clean p i c f out room said =
       let j = first-inside (p .at) k i in
-      let w = counter-low ws long (record { at = p .at; wires = 0; to = 0 }) j (c .0) in
+      let w = counter-low ws (record { at = p .at; wires = 0; to = 0 }) j (c .0) in
       let y = writeFlatNet (flatOf (treeNetAt s (p .at))) in
       let z = flatBytes (netsFrom (treeNetEnd s (p .at)) k) in
       let l = length-append y z in
       let x = netSpot s ws p in
-      let ea = spot-at s bytes (p .at) j w ws long (f .0) (c .0 .1) (p .to) out room (omega arith) in
-      let et = spot-to s bytes (p .at) j w ws long (f .0) (c .0 .1) (p .to) out room (omega arith) in
-      let eo = net-out s bytes (p .at) j w ws long (f .0) (c .0 .1) (p .to) out room (omega arith) in
+      let ea = spot-at s bytes (p .at) j w ws (f .0) clean (c .0 .1) (p .to) out room (omega arith) in
+      let et = spot-to s bytes (p .at) j w ws (f .0) clean (c .0 .1) (p .to) out room (omega arith) in
+      let eo = net-out s bytes (p .at) j w ws (f .0) clean (c .0 .1) (p .to) out room (omega arith) in
       let d : Each Counted (netsFrom (x .at) k) = rw ea (c .1) in
       let g : Each Fits (netsFrom (x .at) k) = rw ea (f .1) in
       let q : length (netOut s ws p out) ≤ far = rw (eo, length-sets out (p .to) y) room in
       let b : x .to + length (flatBytes (netsFrom (x .at) k)) ≤ far = rw ea (omega arith) in
-      all-out k (netWords s ws p) (rw (words-long s ws p) long) x (rw ea i) d g (netOut s ws p out) q b
+      all-out k (netWords s ws p) (words-clean s bytes ws clean p) x (rw ea i) d g (netOut s ws p out) q b
       ∙ (λ i. sets (eo i) (et i) (flatBytes (netsFrom (ea i) k)))
       ∙ sets-then out (p .to) (p .to + length y) y z refl
-
-  -- the words stay as long
-  pub sums-long : (k : ℕ) (ws : List ℕ) (p : Spot) → length (netsWords s ws p k) ≡ length ws
-  unfolding netsWords
-  sums-long zero ws p = refl
-  sums-long (suc k) ws p = sums-long k (netWords s ws p) (netSpot s ws p) ∙ words-long s ws p
-
-  pub linked-all-long : (k : ℕ) (ws : List ℕ) (t : Total) → length (linkedAll s ws t k) ≡ length ws
-  unfolding linkedAll
-  linked-all-long zero ws t = refl
-  linked-all-long (suc k) ws t = linked-all-long k (linked s ws (t .at)) (summed s ws t) ∙ linked-long s ws (t .at)
 
 -- ---- a net's nodes, as check 5 counts them
 

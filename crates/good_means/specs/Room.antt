@@ -20,7 +20,7 @@ use Rattle.means.specs.Means.{Header, Means}
 use Rattle.graph_means.specs.Marks.{CanMark}
 
 -- as many pass a test as there are, at most
-count-most : {A : Type 0} (f : A → Bool) (l : List A) → count f l ≤ length l
+pub count-most : {A : Type 0} (f : A → Bool) (l : List A) → count f l ≤ length l
 count-most f [] = omega arith
 count-most f (x ∷ l) = let i = count-most f l in let b = bits (f x) in omega arith
   where
@@ -42,34 +42,42 @@ listed-room N live l b =
     let d = b .bound in
     (omega arith, omega arith, omega arith)
 
-module _ (Named : ℕ → Name → Type 0) (ws : List ℕ) (e : Engine) (m : Means Named ws e) (x : ℕ → ℕ) (g : Good x e) where
+-- in pools that a run may have
+module _ (e : Engine) (few : e .pools .nodes ≤ 4096) (few-waits : e .pools .waits ≤ 4096) (x : ℕ → ℕ) (g : Good x e) where
   -- a net's pending number is at most N and W, and what a visit adds
-  pub pending-room : (k : ℕ) → k < length (e .nets) → netAt e k .pending ≤ 8192 + x k
+  pub pending-bound : (k : ℕ) → k < length (e .nets) → netAt e k .pending ≤ 8192 + x k
   unfolding waits
-  pending-room k h =
+  pending-bound k h =
       let p = g .pending k h in
       let a = made-most k (e .nets) in
       let w = g .waiting in
       let t : dirtyOf (e .pools .nodes) (owners (graphOf e)) (e .slots .marks) k ≤ e .pools .nodes
       = tally-most (λ n. getD (e .slots .marks) n false && isOf k (getD (owners (graphOf e)) n none)) (e .pools .nodes) in
-      let c = m .header .few-nodes in
-      let d = m .header .few-waits in
       omega arith
 
   -- a node's net is one of the nets
-  pub net-inside : (n : ℕ) → filled (graphOf e) n ≡ true → at (graphOf e) n .net < length (e .nets)
+  pub net-below : (n : ℕ) → filled (graphOf e) n ≡ true → at (graphOf e) n .net < length (e .nets)
   unfolding filled at
-  net-inside n h = g .slotted .owned n _ (owner-at (graphOf e) n ∙ go (getD (graphOf e) n none) h)
+  net-below n h = g .slotted .owned n _ (owner-at (graphOf e) n ∙ go (getD (graphOf e) n none) h)
     where
       go : (o : Option Node) → isSome o ≡ true → owner o ≡ some (orElse o nowhere .net)
       go none i = absurd (false≢true i)
       go (some y) i = refl
 
   -- every node can be marked
-  pub can-mark : (n : ℕ) → filled (graphOf e) n ≡ true → x (at (graphOf e) n .net) ≤ 4294900000 → CanMark e n
-  can-mark n h b =
-      let i = net-inside n h in
-      let p = pending-room (at (graphOf e) n .net) i in
+  pub markable : (n : ℕ) → filled (graphOf e) n ≡ true → x (at (graphOf e) n .net) ≤ 4294900000 → CanMark e n
+  markable n h b =
+      let i = net-below n h in
+      let p = pending-bound (at (graphOf e) n .net) i in
       let l = listed-room (e .pools .nodes) _ (e .dirty) (g .dirty) in
-      let few = m .header .few-nodes in
       record { net = i; room = λ c. l .0; capacity = omega arith; pending = omega arith }
+
+module _ (Named : ℕ → Name → Type 0) (ws : List ℕ) (e : Engine) (m : Means Named ws e) (x : ℕ → ℕ) (g : Good x e) where
+  pub pending-room : (k : ℕ) → k < length (e .nets) → netAt e k .pending ≤ 8192 + x k
+  pending-room = pending-bound e (m .header .few-nodes) (m .header .few-waits) x g
+
+  pub net-inside : (n : ℕ) → filled (graphOf e) n ≡ true → at (graphOf e) n .net < length (e .nets)
+  net-inside = net-below e (m .header .few-nodes) (m .header .few-waits) x g
+
+  pub can-mark : (n : ℕ) → filled (graphOf e) n ≡ true → x (at (graphOf e) n .net) ≤ 4294900000 → CanMark e n
+  can-mark = markable e (m .header .few-nodes) (m .header .few-waits) x g

@@ -24,7 +24,11 @@ pub fn push_dirty(ws: &mut [u32], n: NodeId)
     let k = words::get(ws, layout::DIRTY_LENGTH);
     let c = words::get(ws, layout::DIRTY_CAPACITY);
     words::put(ws, layout::dirty_at(k), n.0);
-    words::put(ws, layout::DIRTY_CAPACITY, grown(c, k));
+    if k == c {
+        words::put(ws, layout::DIRTY_CAPACITY, grown(c, k));
+        words::put(ws, layout::DIRTY_LENGTH, layout::next(k));
+        return;
+    }
     words::put(ws, layout::DIRTY_LENGTH, layout::next(k))
 }
 
@@ -43,7 +47,7 @@ pub fn fewer(ws: &mut [u32], t: NetId)
     layout::set_net_word(ws, t, 7, layout::less(p))
 }
 
-pub fn mark_dirty(ws: &mut [u32], n: NodeId)
+fn mark_slot(ws: &mut [u32], n: NodeId)
     ensures { λ _. ⌜ now (ws .exit) ≡ mark-dirty (now (ws .entry)) (n .0) ⌝ }
 {
     if layout::node_word(ws, n, 2) == 0 {
@@ -51,6 +55,17 @@ pub fn mark_dirty(ws: &mut [u32], n: NodeId)
         push_dirty(ws, n);
         let t = layout::node_word(ws, n, 0);
         more(ws, NetId(t))
+    }
+}
+
+// The same either way; where the node's record is there, this is tested once and not for each word.
+pub fn mark_dirty(ws: &mut [u32], n: NodeId)
+    ensures { λ _. ⌜ now (ws .exit) ≡ mark-dirty (now (ws .entry)) (n .0) ⌝ }
+{
+    if layout::node_at(n, 2) < ws.len() {
+        mark_slot(ws, n)
+    } else {
+        mark_slot(ws, n)
     }
 }
 

@@ -1,18 +1,39 @@
 -- What a function of the crate leaves on each way out, and one turn of each loop, in the words of its tests and calls.
 use Prim.Native.Nat.{ℕ, zero, suc, _+_, _-_, _<_, _≤_}
-use mathlib.Core.Path.{_≡_, _∙_, refl}
+use mathlib.Core.Path.{_≡_, _∙_, refl, sym, ap}
 use mathlib.Core.List.{List}
 use mathlib.Core.Bool.{Bool, true, false}
 use lib.ListN.{getD, set}
+use lib.Seq.{getD-set-other}
 use native.Mathlib.Nat.{not-suc-le-zero}
 use native.Mathlib.Numerals.{sub-one}
 use native.Mathlib.Omega.{arith}
 use Rattle.words.specs.Choose.{eq-yes, eq-no}
 use Rattle.words.specs.Left.{Left}
-use Rattle.layout.specs.Layout.{next, node-word, set-node-word, dirty-at, entry-word}
+use Rattle.layout.specs.Layout.{next, net-at, net-word, set-net-word, node-word, set-node-word, dirty-at, entry-at, entry-word, set-entry-word}
+use Rattle.graph.specs.Graph.{grown}
+use Rattle.graph.specs.Ways.{set-back, grown-room}
 use Rattle.pools.specs.Pools.{take-entry, give-entry}
 use Rattle.lists.specs.declared.Walk.{Walk}
-use Rattle.lists.specs.Lists.{put-after, append, push-node, sift, close, sweep-from, restore-from, dirty-node, keep-dirty, sweep-dirty-from, dirty-again, restore-dirty-from}
+use Rattle.lists.specs.Lists.{put-after, count-entry, append, push-node, sift, close, sweep-from, restore-from, dirty-node, keep-dirty, sweep-dirty-from, dirty-again, restore-dirty-from}
+
+pub count-full : (ws w x : List ℕ) (t k c g e : ℕ) → k ≡ net-word ws t 4 → c ≡ net-word ws t 5 → g ≡ grown c k → w ≡ set-net-word ws t 5 g → e ≡ next k
+    → x ≡ set-net-word w t 4 e → x ≡ count-entry ws t
+unfolding count-entry
+count-full ws w x t k c g e ek ec eg ew ee ex = rw (ex, ew, eg, ee, ek, ec)
+
+pub count-room : (ws x : List ℕ) (t k c e : ℕ) → k ≡ net-word ws t 4 → c ≡ net-word ws t 5 → (k ≡ c → ⊥) → e ≡ next k → x ≡ set-net-word ws t 4 e
+    → x ≡ count-entry ws t
+count-room ws x t k c e ek ec h ee ex =
+    count-full ws ws x t k c (grown c k) e ek ec refl (sym (rw (grown-room c k h, ec) (set-back ws (net-at t 5)))) ee ex
+
+-- the entry's two words stand side by side, whatever is written to the first
+pub entry-put : (ws w x : List ℕ) (n c i : ℕ) → i ≡ entry-at ws c 0 → w ≡ set ws i n → x ≡ set w (i + 1) 0 → x ≡ set-entry-word (set-entry-word ws c 0 n) c 1 0
+entry-put ws w x n c i ei ew ex =
+    let v : getD w 1 0 ≡ getD ws 1 0 = rw ew (getD-set-other ws i 1 n 0 (omega arith)) in
+    let a : i + 1 ≡ entry-at w c 1 = omega arith in
+    let u : w ≡ set-entry-word ws c 0 n = ew ∙ ap (λ (j : ℕ). set ws j n) ei in
+    rw (ex, a, u)
 
 pub push-none : (ws w : List ℕ) (t n c : ℕ) → c ≡ take-entry ws .is → w ≡ take-entry ws .ws → c ≡ 0 → record { is = false; ws = w } ≡ push-node ws t n
 unfolding push-node

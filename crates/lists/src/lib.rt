@@ -1,5 +1,6 @@
 // Node lists and the dirty list: pushes, `tighten_net`, `tighten_dirty` of engine.rs.
 ghost use mathlib.Core.Path.{_≡_};
+ghost use Rattle.layout.specs.Layout.{set-entry-word};
 ghost use Rattle.lists.specs.Lists.{put-after, count-entry, append, push-node, sift, close, sweep, restore, tighten-net, dirty-node, keep-dirty, sweep-dirty, dirty-again, restore-dirty, tighten-dirty};
 use kinds::NetId;
 use kinds::NodeId;
@@ -23,13 +24,37 @@ pub fn put_after(ws: &mut [u32], t: NetId, p: u32, c: u32)
 }
 
 // One more in net t's list.
-fn count_entry(ws: &mut [u32], t: NetId)
+fn count_more(ws: &mut [u32], t: NetId)
     ensures { λ _. ⌜ now (ws .exit) ≡ count-entry (now (ws .entry)) (t .0) ⌝ }
 {
     let length = layout::net_word(ws, t, 4);
     let capacity = layout::net_word(ws, t, 5);
-    layout::set_net_word(ws, t, 5, graph::grown(capacity, length));
+    if length == capacity {
+        layout::set_net_word(ws, t, 5, graph::grown(capacity, length));
+        layout::set_net_word(ws, t, 4, layout::next(length));
+        return;
+    }
     layout::set_net_word(ws, t, 4, layout::next(length))
+}
+
+// The same either way; where the net's words are there, this is tested once and not for each.
+fn count_entry(ws: &mut [u32], t: NetId)
+    ensures { λ _. ⌜ now (ws .exit) ≡ count-entry (now (ws .entry)) (t .0) ⌝ }
+{
+    if layout::net_at(t, 5) < ws.len() {
+        count_more(ws, t)
+    } else {
+        count_more(ws, t)
+    }
+}
+
+// Entry c holds node n, and is the last.
+fn put_entry(ws: &mut [u32], c: u32, n: NodeId)
+    ensures { λ _. ⌜ now (ws .exit) ≡ set-entry-word (set-entry-word (now (ws .entry)) c 0 (n .0)) c 1 0 ⌝ }
+{
+    let i = layout::entry_at(ws, c, 0);
+    words::put(ws, i, n.0);
+    words::put(ws, i + 1, 0)
 }
 
 // Entry c, with node n, at the end of net t's list.
@@ -37,8 +62,7 @@ fn append(ws: &mut [u32], t: NetId, n: NodeId, c: u32)
     ensures { λ _. ⌜ now (ws .exit) ≡ append (now (ws .entry)) (t .0) (n .0) c ⌝ }
 {
     let p = layout::net_word(ws, t, 3);
-    layout::set_entry_word(ws, c, 0, n.0);
-    layout::set_entry_word(ws, c, 1, 0);
+    put_entry(ws, c, n);
     put_after(ws, t, p, c);
     layout::set_net_word(ws, t, 3, c);
     count_entry(ws, t)

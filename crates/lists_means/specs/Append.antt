@@ -116,7 +116,7 @@ pub pointer-link : (N k p : ℕ) → Link N k p (pointer-at N k p)
 unfolding pointer-at
 pointer-link N k p = record { none = λ z. sym (eq-yes p 0 _ _ z refl); some = λ z. sym (eq-no p 0 _ _ z refl) }
 
-put-is : (w : List ℕ) (N k p c : ℕ) → node-pool w ≡ N → put-after w (k + 1) p c ≡ set w (pointer-at N k p) c
+pub put-is : (w : List ℕ) (N k p c : ℕ) → node-pool w ≡ N → put-after w (k + 1) p c ≡ set w (pointer-at N k p) c
 unfolding put-after pointer-at
 put-is w N k p c e = go (ℕ-discrete p 0)
   where

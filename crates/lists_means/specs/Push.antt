@@ -137,7 +137,7 @@ sum-most f (x ∷ ts) zero h = omega arith
 sum-most f (x ∷ ts) (suc k) h = let i = sum-most f ts k (omega arith) in omega arith
 
 -- what is not where the pointer can stand
-not-there : {N k p j : ℕ} → Link N k p j → (i : ℕ) → i ≢ net-at (k + 1) 2 → (p ≢ 0 → i ≢ 5214 + 32 * N + 2 * p + 1) → i ≢ j
+pub not-there : {N k p j : ℕ} → Link N k p j → (i : ℕ) → i ≢ net-at (k + 1) 2 → (p ≢ 0 → i ≢ 5214 + 32 * N + 2 * p + 1) → i ≢ j
 not-there {p = p} {j} l i a b = go (ℕ-discrete p 0)
   where
     go : Dec (p ≡ 0) → i ≢ j
@@ -145,7 +145,7 @@ not-there {p = p} {j} l i a b = go (ℕ-discrete p 0)
     go (no z) = λ d. b z (d ∙ l .some z)
 
 -- the last place of a chain is below its bound
-last-below : {f own : ℕ → ℕ} {b s h : ℕ} {z : ℕ} (l : List ℕ) → Chain f own b s h l z → 0 < b → last l 0 < b
+pub last-below : {f own : ℕ → ℕ} {b s h : ℕ} {z : ℕ} (l : List ℕ) → Chain f own b s h l z → 0 < b → last l 0 < b
 last-below [] c i = i
 last-below {own = own} {b} {s} (d ∷ l) c i = all-last (Mine own b s) d l (c .mine) .below
 

@@ -1,24 +1,27 @@
 -- What a function of the crate leaves on each way out, and one turn of each loop, in the words of its tests and calls.
-use Prim.Native.Nat.{ℕ, zero, suc, _+_, _-_, _%_, _<_, _≤_}
+use Prim.Native.Nat.{ℕ, zero, suc, _+_, _*_, _-_, _%_, _<_, _≤_}
 use mathlib.Core.Bool.{Bool, true, false}
 use mathlib.Core.Path.{_≡_, _∙_, refl}
 use mathlib.Core.List.{List}
-use lib.ListN.{replicate}
+use lib.ListN.{length, replicate}
 use lib.Dec.{eqb}
 use native.Mathlib.Nat.{not-suc-le-zero}
 use native.Mathlib.Numerals.{sub-one}
+use native.Mathlib.Omega.{arith}
 use Rattle.words.specs.Choose.{lt-yes, lt-no, pick-true, pick-false}
 use Rattle.words.specs.Left.{Left, whole}
 use Rattle.fields.specs.Fields.{byte, be16, be32}
 use Rattle.stored.specs.Stored.{listEnd, nameEnd, nodeEnd, nodeCountAt, flatNetEnd}
-use Rattle.ends.specs.Ends.{within, on, node-is, next-net, next-is}
+use Rattle.ends.specs.Ends.{within, on, list-past, node-is, next-net, next-is}
+use Rattle.ends.specs.Whole.{whole-node, whole-is}
 use Rattle.layout.specs.Layout.{next, nets, set-net-word, principal}
 use Rattle.graph.specs.Graph.{link}
 use Rattle.kinds.specs.declared.NodeId.{NodeId}
 use Rattle.edits.specs.declared.Placed.{Placed}
 use Rattle.edits.specs.declared.Placed.the-variants.{At, Refused}
 use Rattle.edits.specs.Edits.{on-placed, insert-node}
-use Rattle.wire_ends.specs.WireEnds.{join-wires}
+use Rattle.wire_ends.specs.WireEnds.{Joined, join-wire, join-wires}
+use Rattle.wire_ends.specs.Ways.{wires-more}
 use Rattle.load.specs.Added.{Added, all-added, unrefused, without}
 use Rattle.load.specs.Load.{join-node, add-node, add-nodes, join-free, add-free, add-all, add-wired, add-sized, new-net, add-flat-net, add-if-included, add-flat-nets}
 
@@ -60,6 +63,54 @@ pub nodes-done : (ws wires file : List ℕ) (net at k : ℕ) (x : Added) → add
 unfolding add-nodes
 nodes-done ws wires file net at zero x e h = e
 nodes-done ws wires file net at (suc k) x e h = absurd (not-suc-le-zero h)
+
+-- ---- nodes that stand in the file as a whole
+
+pub nodes-rest : (ws wires file w t : List ℕ) (net at r k : ℕ) (x : Added) → add-nodes ws wires file net at k ≡ x → r ≡ add-nodes ws wires file net at k .is
+    → w ≡ add-nodes ws wires file net at k .ws → t ≡ add-nodes ws wires file net at k .wires → record { is = r; ws = w; wires = t } ≡ x
+nodes-rest ws wires file w t net at r k x g er ew et = all-added (add-nodes ws wires file net at k) er ew et ∙ g
+
+pub wires-next : (ws wires file w t : List ℕ) (at p q b k : ℕ) (x : Joined) → join-wires ws wires file at p k ≡ x → 0 < k → b ≡ be16 file at
+    → w ≡ join-wire ws wires b p .ws → t ≡ join-wire ws wires b p .wires → q ≡ next p → at + 2 * k ≤ length file
+    → join-wires w t file (at + 2) q (k - 1) ≡ x
+wires-next ws wires file w t at p q b k x g h eb ew et eq l = wires-more ws wires file w t at (at + 2) p q b k x g h eb ew et (omega arith) eq
+
+pub whole-joined : (ws wires file w v x y : List ℕ) (at n k p q b : ℕ) → p ≡ principal n → b ≡ be16 file at → w ≡ join-wire ws wires b p .ws
+    → v ≡ join-wire ws wires b p .wires → q ≡ next p → x ≡ join-wires w v file (at + 3) q k .ws → y ≡ join-wires w v file (at + 3) q k .wires
+    → at + 3 + 2 * k ≤ length file → record { ws = x; wires = y } ≡ join-node ws wires file at n k
+unfolding join-node
+whole-joined ws wires file w v x y at n k p q b ep eb ew ev eq ex ey l =
+    let a : on file at 3 ≡ at + 3 = omega arith in
+    rw (a, ex, ey, ew, ev, eq, eb, ep)
+
+module _ (file : List ℕ) (at e : ℕ) (ee : e ≡ nameEnd file at) (l : listEnd file (e + 2) ≤ length file) where
+  name-within : e ≡ within file (nameEnd file at)
+  name-within = omega (arith, list-past file (e + 2))
+
+  pub whole-at : (ws wires w x y : List ℕ) (net k : ℕ) (p : Placed) (n : NodeId) → k ≡ byte file (e + 2)
+      → p ≡ insert-node ws net (at % 4294967296) (1 + k) .is → w ≡ insert-node ws net (at % 4294967296) (1 + k) .ws → p ≡ At n
+      → x ≡ join-node w wires file e (n .0) k .ws → y ≡ join-node w wires file e (n .0) k .wires
+      → record { is = 0; ws = x; wires = y } ≡ add-node ws wires file net at
+  whole-at ws wires w x y net k p n ek ep ew h ex ey = node-at ws wires file w x y net at e k p n name-within ek ep ew h ex ey
+
+  pub whole-refused : (ws wires w : List ℕ) (net k r : ℕ) (p : Placed) → k ≡ byte file (e + 2) → p ≡ insert-node ws net (at % 4294967296) (1 + k) .is
+      → w ≡ insert-node ws net (at % 4294967296) (1 + k) .ws → p ≡ Refused r → record { is = r; ws = w; wires = wires } ≡ add-node ws wires file net at
+  whole-refused ws wires w net k r p ek ep ew h = node-refused ws wires file w net at e k r p name-within ek ep ew h
+
+module _ (file : List ℕ) (at e : ℕ) (ee : e ≡ whole-node file at) (z : e ≡ 0 → ⊥) where
+  pub whole-name-ends : e ≡ nameEnd file at
+  whole-name-ends = whole-is file at e ee z .0
+
+  pub whole-wires-end : listEnd file (e + 2) ≤ length file
+  unfolding nodeEnd
+  whole-wires-end = rw whole-name-ends (whole-is file at e ee z .1)
+
+  pub whole-more : (ws wires w t : List ℕ) (net a r k : ℕ) (x : Added) → add-nodes ws wires file net at k ≡ x → 0 < k → a ≡ listEnd file (e + 2)
+      → r ≡ add-node ws wires file net at .is → w ≡ add-node ws wires file net at .ws → t ≡ add-node ws wires file net at .wires → r ≤ 0
+      → add-nodes w t file net a (k - 1) ≡ x
+  whole-more ws wires w t net a r k x g h ea er ew et y =
+      nodes-more ws wires file w t net at e a r k x g h (omega (arith, whole-name-ends, whole-wires-end, list-past file (e + 2)))
+      (omega (arith, whole-wires-end)) er ew et y
 
 pub free-joined : (ws wires file w v x y : List ℕ) (net at a n k p q q′ : ℕ) → p ≡ principal n → q ≡ next p → w ≡ set-net-word ws net 1 n → v ≡ link w p q
     → a ≡ on file at 8 → q′ ≡ next q → x ≡ join-wires v wires file a q′ k .ws → y ≡ join-wires v wires file a q′ k .wires

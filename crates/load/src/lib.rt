@@ -1,12 +1,17 @@
 // Included nets come into the engine: `add_flat_nets` and `add_flat_net` of engine.rs.
+ghost use Prim.Native.Nat.{_+_, _*_, _<_, _≤_};
 ghost use mathlib.Core.Path.{_≡_};
-ghost use Rattle.stored.specs.Stored.{nameEnd};
+ghost use lib.ListN.{length};
+ghost use Rattle.fields.specs.Fields.{byte, be16};
+ghost use Rattle.stored.specs.Stored.{listEnd, nameEnd};
 ghost use Rattle.ends.specs.Ends.{within};
 ghost use Rattle.layout.specs.Layout.{next, nets};
+ghost use Rattle.wire_ends.specs.WireEnds.{join-wires};
 ghost use Rattle.load.specs.Load.{join-node, join-free, add-node, add-nodes, add-free, add-all, add-wired, add-sized, new-net, add-flat-net, add-if-included, add-flat-nets, load};
 use edits::Placed;
 use kinds::NetId;
 use kinds::NodeId;
+use layout::Port;
 
 // ---- nodes
 
@@ -43,7 +48,7 @@ fn add_node(ws: &mut [u32], wires: &mut [u32], file: &[u8], t: NetId, at: usize,
 }
 
 // So many nodes from a place on.
-fn add_nodes(
+fn add_rest(
     ws: &mut [u32],
     wires: &mut [u32],
     file: &[u8],
@@ -63,6 +68,104 @@ fn add_nodes(
             return r;
         }
         at = end;
+        left -= 1;
+    }
+    0
+}
+
+// ---- nodes that stand in the file as a whole: no byte is tested for
+
+fn wide(x: u8) -> u16
+    ensures { λ r. ⌜ (r ≡ x) × (r < 256) ⌝ }
+{
+    x as u16
+}
+
+fn wire(file: &[u8], at: usize) -> u16
+    requires { ⌜ at + 2 ≤ length (now file) ⌝ }
+    ensures { λ r. ⌜ r ≡ be16 (now (file .entry)) at ⌝ }
+{
+    256 * wide(file[at]) + wide(file[at + 1])
+}
+
+// The number of aux wires, where the name ends at e.
+fn aux_count(file: &[u8], e: usize) -> u16
+    requires { ⌜ e + 3 ≤ length (now file) ⌝ }
+    ensures { λ r. ⌜ (r ≡ byte (now (file .entry)) (e + 2)) × (r < 256) ⌝ }
+{
+    wide(file[e + 2])
+}
+
+fn after_wires(file: &[u8], e: usize) -> usize
+    requires { ⌜ listEnd (now file) (e + 2) ≤ length (now file) ⌝ }
+    ensures { λ r. ⌜ r ≡ listEnd (now (file .entry)) (e + 2) ⌝ }
+{
+    e + 3 + 2 * aux_count(file, e) as usize
+}
+
+fn join_there(ws: &mut [u32], wires: &mut [u32], file: &[u8], from: usize, p: Port, k: u32)
+    requires { ⌜ from + 2 * k ≤ length (now file) ⌝ }
+    ensures { λ _. ⌜ (now (ws .exit) ≡ join-wires (now (ws .entry)) (now (wires .entry)) (now (file .entry)) from (p .0) k .ws) × (now (wires .exit) ≡ join-wires (now (ws .entry)) (now (wires .entry)) (now (file .entry)) from (p .0) k .wires) ⌝ }
+{
+    let mut at = from;
+    let mut port = p;
+    let mut left = k;
+    while 0 < left {
+        wire_ends::join_wire(ws, wires, wire(file, at) as u32, port);
+        at += 2;
+        port = layout::next_port(port);
+        left -= 1;
+    }
+}
+
+fn join_whole(ws: &mut [u32], wires: &mut [u32], file: &[u8], at: usize, n: NodeId, k: u32)
+    requires { ⌜ at + 3 + 2 * k ≤ length (now file) ⌝ }
+    ensures { λ _. ⌜ (now (ws .exit) ≡ join-node (now (ws .entry)) (now (wires .entry)) (now (file .entry)) at (n .0) k .ws) × (now (wires .exit) ≡ join-node (now (ws .entry)) (now (wires .entry)) (now (file .entry)) at (n .0) k .wires) ⌝ }
+{
+    let p = layout::principal(n);
+    wire_ends::join_wire(ws, wires, wire(file, at) as u32, p);
+    join_there(ws, wires, file, at + 3, layout::next_port(p), k)
+}
+
+// The node at a place, whose name ends at e; 0, or the number by which it is refused.
+fn add_whole(ws: &mut [u32], wires: &mut [u32], file: &[u8], t: NetId, at: usize, e: usize) -> u32
+    requires { ⌜ (e ≡ nameEnd (now file) at) × (listEnd (now file) (e + 2) ≤ length (now file)) ⌝ }
+    ensures { λ r. ⌜ (r ≡ add-node (now (ws .entry)) (now (wires .entry)) (now (file .entry)) (t .0) at .is) × (now (ws .exit) ≡ add-node (now (ws .entry)) (now (wires .entry)) (now (file .entry)) (t .0) at .ws) × (now (wires .exit) ≡ add-node (now (ws .entry)) (now (wires .entry)) (now (file .entry)) (t .0) at .wires) ⌝ }
+{
+    let k = aux_count(file, e) as u32;
+    let placed = edits::insert_node(ws, t, (at % 4294967296) as u32, 1 + k);
+    match placed {
+        Placed::At(n) => {
+            join_whole(ws, wires, file, e, n, k);
+            0
+        }
+        Placed::Refused(r) => r,
+    }
+}
+
+// The same; mostly the nodes stand in the file as a whole.
+fn add_nodes(
+    ws: &mut [u32],
+    wires: &mut [u32],
+    file: &[u8],
+    t: NetId,
+    from: usize,
+    count: u32,
+) -> u32
+    ensures { λ r. ⌜ (r ≡ add-nodes (now (ws .entry)) (now (wires .entry)) (now (file .entry)) (t .0) from count .is) × (now (ws .exit) ≡ add-nodes (now (ws .entry)) (now (wires .entry)) (now (file .entry)) (t .0) from count .ws) × (now (wires .exit) ≡ add-nodes (now (ws .entry)) (now (wires .entry)) (now (file .entry)) (t .0) from count .wires) ⌝ }
+{
+    let mut at = from;
+    let mut left = count;
+    while 0 < left {
+        let e = ends::whole_node(file, at);
+        if e == 0 {
+            return add_rest(ws, wires, file, t, at, left);
+        }
+        let r = add_whole(ws, wires, file, t, at, e);
+        if 0 < r {
+            return r;
+        }
+        at = after_wires(file, e);
         left -= 1;
     }
     0

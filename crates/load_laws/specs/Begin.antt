@@ -91,7 +91,7 @@ ids : (n k : ℕ) → map (λ i. i) (from k n) ≡ from k n
 ids zero k = refl
 ids (suc n) k = ap (λ (l : List ℕ). k ∷ l) (ids n (suc k))
 
-empty-loaded : (path : ℕ) (p : Pools) (f : File FlatNet) → Loaded path (coreOf (empty p f))
+pub empty-loaded : (path : ℕ) (p : Pools) (f : File FlatNet) → Loaded path (coreOf (empty p f))
 unfolding empty coreOf
 empty-loaded path p f = record {
   rest = none-rest (p .nodes) path;
@@ -278,7 +278,7 @@ pub not-false : (t : Bool) → T (not t) → t ≡ false
 not-false true x = absurd x
 not-false false x = refl
 
-net-fine : (f : File FlatNet) → ordered flat f ≡ true → wired flat f ≡ true → (t : FlatNet) → List·Memᴰ t (f .nets) → NetFine t
+pub net-fine : (f : File FlatNet) → ordered flat f ≡ true → wired flat f ≡ true → (t : FlatNet) → List·Memᴰ t (f .nets) → NetFine t
 unfolding ordered wired
 net-fine f o w t m = record {
   ordered = all-mem (λ (n : FlatNet). pairsOrdered (n .pairs)) (f .nets) t

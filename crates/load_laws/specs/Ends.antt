@@ -106,7 +106,7 @@ module _ (t : FlatNet) (N : ℕ → ℕ) where
   count-append w [] vs = omega arith
   count-append w (u ∷ us) vs = let z = count-append w us vs in omega arith
 
-  met-count : (w : ℕ) (xs : List FlatNode) (met : List End) (j : ℕ)
+  pub met-count : (w : ℕ) (xs : List FlatNode) (met : List End) (j : ℕ)
       → ofWire w (metAfter met j xs) ≡ ofWire w met + count (eqb w) (map (canonical (t .pairs)) (concatMap (λ m. m .pri ∷ m .aux) xs))
   met-count w [] met j = omega arith
   met-count w (x ∷ xs) met j =

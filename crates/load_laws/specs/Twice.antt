@@ -31,10 +31,10 @@ pair-wires (q ∷ ps) p m = go (List·Memᴰ·cases-cons m) (pair-wires ps p)
     go (inr k) r = let y = r k in (List·Memᴰ·tail (List·Memᴰ·tail (y .0)), List·Memᴰ·tail (List·Memᴰ·tail (y .1)))
 
 -- no wire is in two pairs, nor twice in one
-record PairsApart (ps : List (ℕ × ℕ)) : Type 0 where
-  crossed : (p q : ℕ × ℕ) → List·Memᴰ p ps → List·Memᴰ q ps → p .0 ≢ q .1
-  seconds : (p q : ℕ × ℕ) → List·Memᴰ p ps → List·Memᴰ q ps → p .1 ≡ q .1 → p .0 ≡ q .0
-  firsts′ : (p q : ℕ × ℕ) → List·Memᴰ p ps → List·Memᴰ q ps → p .0 ≡ q .0 → p .1 ≡ q .1
+pub record PairsApart (ps : List (ℕ × ℕ)) : Type 0 where
+  pub crossed : (p q : ℕ × ℕ) → List·Memᴰ p ps → List·Memᴰ q ps → p .0 ≢ q .1
+  pub seconds : (p q : ℕ × ℕ) → List·Memᴰ p ps → List·Memᴰ q ps → p .1 ≡ q .1 → p .0 ≡ q .0
+  pub firsts′ : (p q : ℕ × ℕ) → List·Memᴰ p ps → List·Memᴰ q ps → p .0 ≡ q .0 → p .1 ≡ q .1
 
 pairs-apart : (ps : List (ℕ × ℕ)) → distinct eqb (pairWires ps) ≡ true → PairsApart ps
 unfolding pairWires
@@ -169,7 +169,7 @@ module _ (t : FlatNet) (ordered : pairsOrdered (t .pairs) ≡ true) (wired : fla
   abbrev pub wires : List ℕ
   wires = map (canonical (t .pairs)) (places t)
 
-  apart : PairsApart (t .pairs)
+  pub apart : PairsApart (t .pairs)
   unfolding pairsOrdered
   apart = pairs-apart (t .pairs) (both (all (λ p. ltb (p .0) (p .1)) (t .pairs) && ascend (map (λ p. p .0) (t .pairs))) (distinct eqb (pairWires (t .pairs))) ordered .1)
 

@@ -1,12 +1,10 @@
 -- First entries and waits: on every engine reached each net's list begins with its free node, and every wait names a slot and a net.
-use Prim.Native.Nat.{ℕ, zero, suc, _+_, _-_, _<_}
+use Prim.Native.Nat.{ℕ, _+_, _-_, _<_}
 use mathlib.Core.Path.{_≡_, refl, sym, ap, _∙_, subst}
-use mathlib.Core.Logic.{_⊎_, inl, inr}
-use native.Mathlib.Decide.{ℕ-discrete, decLt}
 use native.Mathlib.Omega.{arith}
 use mathlib.Core.Bool.{Bool, true, false}
 use mathlib.Core.Option.{Option, none, some}
-use mathlib.Core.List.{List, [], _∷_, _++_, List·Memᴰ, List·Memᴰ·head, List·Memᴰ·tail, List·Memᴰ·not-nil, List·Memᴰ·append-cases, List·Memᴰ·eq-of-singleton}
+use mathlib.Core.List.{List, [], _∷_, _++_, List·Memᴰ, List·Memᴰ·head, List·Memᴰ·tail, List·Memᴰ·not-nil}
 use lib.ListN.{length, getD, length-map}
 use lib.Dec.{eqb, ltb}
 use Rattle.net_file.specs.Lists.{Result, ok, refuse, need}
@@ -15,8 +13,8 @@ use Rattle.definitions.specs.Lists.{_>>=_, nth, foldl, each}
 use Rattle.definitions.specs.Nets.{Home, at, nameOf}
 use Rattle.definitions.specs.Scripts.{Script}
 use Rattle.definitions.specs.Rules.{etaScript, graftScript, graftFits, reaches, interact}
-use Rattle.definitions.specs.State.{Net, Wait, Pools, Engine, graphOf, homes, withSlots, withMark, withDirty, withSteps, withStale, withAwaiting, netAt, overNet, more, fewer, waits}
-use Rattle.definitions.specs.Books.{isDirty, tightenNet, fresh, edit, removeNode, finishEdit, wake, answer, finishEditNet}
+use Rattle.definitions.specs.State.{Net, Pools, Engine, graphOf, homes, withSlots, withMark, withDirty, withSteps, withStale, withAwaiting, netAt, overNet, more, fewer, waits}
+use Rattle.definitions.specs.Books.{isDirty, tightenNet, fresh, edit, removeNode, finishEdit}
 use Rattle.definitions.specs.Load.{included}
 use Rattle.definitions.specs.Visit.{Visited, acted, passed, Try, interaction, rewrite, lessOne, act, actIf, awaitNet, graftNet, getNet, graftNamed, graftChild, tryGraft, tries, tryRewrite, attempt, attempts, visit}
 use Rattle.definitions.specs.Run.{leave, turn, withItems}
@@ -28,22 +26,18 @@ use Rattle.step_laws.specs.First.{Firsts, HeldAll, tight-first, act-first}
 use Rattle.load_laws.specs.Begin.{load-first}
 use Rattle.good_laws.specs.Owners.{owners, net-of}
 use Rattle.good_laws.specs.Good.{Good, rest}
-use Rattle.good_laws.specs.Nets.{part-at, over-same, over-other, over-out}
 use Rattle.good_laws.specs.Marks.{below-slots}
 use Rattle.good_laws.specs.Edits.{Answers}
-use Rattle.good_laws.specs.Answers.{awaits, more-awaits, fewer-awaits, wake-awaits}
+use Rattle.good_laws.specs.Answers.{awaits, fewer-awaits}
 use Rattle.good_laws.specs.Loaded.{edits-awaits, load-idle}
 use Rattle.good_laws.specs.Settled.{tighten-awaits, remove-awaits}
 use Rattle.good_laws.specs.Sound.{OnNode, tries-node}
 use Rattle.good_laws.specs.Turn.{is-some}
+use Rattle.waiter_laws.specs.Waiters.{Waited, waited-same, await-waited, finish-waited}
 use Rattle.fuel_laws.specs.Reached.{Reached, loads, turns, leaves}
 use Rattle.reached_laws.specs.Runs
 use Rattle.reached_laws.specs.Runs.{Begins}
 use Rattle.reached_laws.specs.Files.{reached-file}
-
--- every wait names one of N slots and one of M nets
-abbrev pub Named : ℕ → ℕ → Engine → Type 0
-Named N M e = (k : ℕ) (w : Wait) → List·Memᴰ w (netAt e k .awaiting) → (w .node < N) × (w .net < M)
 
 -- where a rule acted, and where none did
 after-both : (P R Q : Engine → Type 0) (r : Result Visited) → After P Q r → After R Q r → After (λ e. P e × R e) Q r
@@ -56,61 +50,20 @@ removes-awaits [] e = refl
 removes-awaits (n ∷ ns) e = removes-awaits ns (removeNode e n) ∙ remove-awaits e n
 
 module _ (N M : ℕ) where
-  named-same : (e e′ : Engine) → awaits e′ ≡ awaits e → Named N M e → Named N M e′
-  named-same e e′ s h k w m = h k w (subst (List·Memᴰ w) (part-at (λ t. t .awaiting) e e′ s k) m)
-
-  -- ---- waits made and answered
-
-  -- other waits on net k
-  over-named : (f : Net → Net) (k : ℕ) (e : Engine) → ((w : Wait) → List·Memᴰ w (f (netAt e k) .awaiting) → (w .node < N) × (w .net < M)) → Named N M e → Named N M (overNet f k e)
-  over-named f k e new h j w m = go (ℕ-discrete j k) (decLt k (length (e .nets)))
-    where
-      go : Dec (j ≡ k) → Dec (k < length (e .nets)) → (w .node < N) × (w .net < M)
-      go (no d) l = h j w (subst (λ (t : Net). List·Memᴰ w (t .awaiting)) (over-other f k e j d) m)
-      go (yes s) (yes l) = new w (subst (λ (t : Net). List·Memᴰ w (t .awaiting)) (ap (netAt (overNet f k e)) s ∙ over-same f k e l) m)
-      go (yes s) (no l) = h j w (subst (λ (d : Engine). List·Memᴰ w (netAt d j .awaiting)) (over-out f k e (omega arith)) m)
-
-  cleared : (k : ℕ) (e : Engine) → Named N M e → Named N M (overNet (withAwaiting []) k e)
-  unfolding withAwaiting
-  cleared k e h = over-named (withAwaiting []) k e (λ w m. absurd (List·Memᴰ·not-nil m)) h
-
-  answer-named : (f : ℕ) (ws : List Wait) (e : Engine) → Named N M e → Named N M (answer f ws e)
-  unfolding answer
-  answer-named zero ws e h = h
-  answer-named (suc f) [] e h = h
-  answer-named (suc f) (w ∷ ws) e h =
-      go (eqb (netAt (wake w e) (w .net) .pending) 0) (answer-named f (netAt (wake w e) (w .net) .awaiting ++ ws) (overNet (withAwaiting []) (w .net) (wake w e)) (cleared (w .net) (wake w e) woken)) (answer-named f ws (wake w e) woken)
-    where
-      woken : Named N M (wake w e)
-      woken = named-same e (wake w e) (wake-awaits w e) h
-
-      go : (t : Bool) → Named N M (answer f (netAt (wake w e) (w .net) .awaiting ++ ws) (overNet (withAwaiting []) (w .net) (wake w e))) → Named N M (answer f ws (wake w e))
-          → Named N M (elim t as (λ _. Engine) [ true ↦ answer f (netAt (wake w e) (w .net) .awaiting ++ ws) (overNet (withAwaiting []) (w .net) (wake w e)) | false ↦ answer f ws (wake w e) ])
-      go true x y = x
-      go false x y = y
-
-  finish-named : (k : ℕ) (e : Engine) → Named N M e → Named N M (finishEditNet k e)
-  unfolding finishEditNet
-  finish-named k e h = go (eqb (netAt e k .pending) 0)
-    where
-      go : (t : Bool) → Named N M (elim t as (λ _. Engine) [ true ↦ answer (waits e) (netAt e k .awaiting) (overNet (withAwaiting []) k e) | false ↦ e ])
-      go true = answer-named (waits e) (netAt e k .awaiting) (overNet (withAwaiting []) k e) (cleared k e h)
-      go false = h
-
   -- ---- an act
 
-  act-named : (s : Script) (e : Engine) (Q : Engine → Type 0) → Named N M e → After (Named N M) Q (act s e)
+  act-waited : (s : Script) (e : Engine) (Q : Engine → Type 0) → Waited N M e → After (Waited N M) Q (act s e)
   unfolding act finishEdit withSteps netAt
-  act-named s e Q h = go (ltb (e .steps) maxSteps) (each edit (s .edits) e) (edits-awaits (s .edits) e)
+  act-waited s e Q h = go (ltb (e .steps) maxSteps) (each edit (s .edits) e) (edits-awaits (s .edits) e)
     where
-      go : (b : Bool) (r : Result Engine) → Answers (λ e′. awaits e′ ≡ awaits e) r → After (Named N M) Q (need b 14 (r >>= λ e′. ok (acted (withSteps (lessOne (e′ .limit)) (e′ .steps + 1) (finishEdit (s .dead) e′)))))
+      go : (b : Bool) (r : Result Engine) → Answers (λ e′. awaits e′ ≡ awaits e) r → After (Waited N M) Q (need b 14 (r >>= λ e′. ok (acted (withSteps (lessOne (e′ .limit)) (e′ .steps + 1) (finishEdit (s .dead) e′)))))
       go false r x = tt
       go true (refuse r) x = tt
-      go true (ok e′) x = named-same e (finishEdit (s .dead) e′) (removes-awaits (s .dead) e′ ∙ x) h
+      go true (ok e′) x = waited-same N M e (finishEdit (s .dead) e′) (removes-awaits (s .dead) e′ ∙ x) h
 
   -- what a rule that acted leaves, where the free nodes are there
   abbrev Done : Engine → Type 0
-  Done e = (HeldAll (coreOf e) → Firsts (coreOf e)) × Named N M e
+  Done e = (HeldAll (coreOf e) → Firsts (coreOf e)) × Waited N M e
 
   module _ (n : ℕ) (low : n < N) where
     abbrev Begun : Core → Type 0
@@ -118,10 +71,10 @@ module _ (N M : ℕ) where
 
     -- what a visit of n starts from, and a rule that did not act leaves
     abbrev Stays : Engine → Type 0
-    Stays e = Begun (coreOf e) × Named N M e
+    Stays e = Begun (coreOf e) × Waited N M e
 
-    act-kept : (s : Script) (e : Engine) (Q : Engine → Type 0) → Firsts (coreOf e) → Named N M e → After Done Q (act s e)
-    act-kept s e Q f h = after-both (λ e′. HeldAll (coreOf e′) → Firsts (coreOf e′)) (Named N M) Q (act s e) (act-first s e f Q) (act-named s e Q h)
+    act-kept : (s : Script) (e : Engine) (Q : Engine → Type 0) → Firsts (coreOf e) → Waited N M e → After Done Q (act s e)
+    act-kept s e Q f h = after-both (λ e′. HeldAll (coreOf e′) → Firsts (coreOf e′)) (Waited N M) Q (act s e) (act-first s e f Q) (act-waited s e Q h)
 
     act-if : (o : Option Script) (e : Engine) → Stays e → After Done Stays (actIf o e)
     unfolding actIf
@@ -141,18 +94,11 @@ module _ (N M : ℕ) where
         e₁ : Engine
         e₁ = overNet wait m e
 
-        one : (w : Wait) → List·Memᴰ w (netAt e m .awaiting) ⊎ List·Memᴰ w (record { node = n; net = k } ∷ []) → (w .node < N) × (w .net < M)
-        one w (inl q) = x .1 m w q
-        one w (inr q) = subst (λ (v : Wait). (v .node < N) × (v .net < M)) (sym (List·Memᴰ·eq-of-singleton q)) (low, x .0 .2)
-
-        named : Named N M (more k e₁)
-        named = named-same e₁ (more k e₁) (more-awaits k e₁) (over-named wait m e (λ w q. one w (List·Memᴰ·append-cases (netAt e m .awaiting) q)) (x .1))
-
         core : coreOf (more k e₁) ≡ coreOf e
         core = core-more k e₁ ∙ core-overNet wait (λ t. (refl, refl)) m e
 
         go : (t : Bool) → After Done Stays (need t 11 (ok (passed (more k e₁))))
-        go true = (subst Begun (sym core) (x .0), named)
+        go true = (subst Begun (sym core) (x .0), await-waited N M m n k e low (x .0 .2) (x .1))
         go false = tt
 
     graft-net : (m : ℕ) (e : Engine) → Stays e → After Done Stays (graftNet m n e)
@@ -161,7 +107,7 @@ module _ (N M : ℕ) where
         let e₁ = tightenNet m e in
         let free = netAt e₁ m .home .free in
         let s = graftScript (fresh e₁) (graphOf e₁) (netAt e₁ m .list .items) free n in
-        go (act s e₁) (act-kept s e₁ Stays (subst Firsts (sym (core-tightenNet m e)) (tight-first m (coreOf e) (x .0 .0) (x .0 .1))) (named-same e e₁ (tighten-awaits m e) (x .1))) (graftFits (graphOf e₁) free n)
+        go (act s e₁) (act-kept s e₁ Stays (subst Firsts (sym (core-tightenNet m e)) (tight-first m (coreOf e) (x .0 .0) (x .0 .1))) (waited-same N M e e₁ (tighten-awaits m e) (x .1))) (graftFits (graphOf e₁) free n)
       where
         go : (r : Result Visited) → After Done Stays r → (t : Bool) → After Done Stays (r >>= λ v. need t 13 (ok v))
         go (ok (acted e′)) y true = y
@@ -215,14 +161,14 @@ module _ (N M : ℕ) where
 
     -- the visit ends
     abbrev Left : Engine → Type 0
-    Left e = Firsts (coreOf e) × Named N M e
+    Left e = Firsts (coreOf e) × Waited N M e
 
     leave-kept : (k : ℕ) (r : Result Visited) → After Done Stays r → After Done Left (r >>= λ v. ok (leave k v))
     unfolding leave
     leave-kept k (ok (acted e)) x =
-        (subst (λ (c : Core). HeldAll c → Firsts c) (sym (core-finishEditNet k (fewer k e) ∙ core-fewer k e)) (x .0), finish-named k (fewer k e) (named-same e (fewer k e) (fewer-awaits k e) (x .1)))
+        (subst (λ (c : Core). HeldAll c → Firsts c) (sym (core-finishEditNet k (fewer k e) ∙ core-fewer k e)) (x .0), finish-waited N M k (fewer k e) (waited-same N M e (fewer k e) (fewer-awaits k e) (x .1)))
     leave-kept k (ok (passed e)) x =
-        (subst Firsts (sym (core-finishEditNet k (fewer k e) ∙ core-fewer k e)) (x .0 .0), finish-named k (fewer k e) (named-same e (fewer k e) (fewer-awaits k e) (x .1)))
+        (subst Firsts (sym (core-finishEditNet k (fewer k e) ∙ core-fewer k e)) (x .0 .0), finish-waited N M k (fewer k e) (waited-same N M e (fewer k e) (fewer-awaits k e) (x .1)))
     leave-kept k (refuse r) x = tt
 
     visit-kept : (e : Engine) → Stays e → After Done Stays (visit n e)
@@ -230,12 +176,12 @@ module _ (N M : ℕ) where
     visit-kept e x = attempts-kept (tries (e .rules) (graphOf e) n) (tries-node (e .rules) (graphOf e) n) e x
 
   -- a turn: n is a slot of a net, if it is dirty
-  turn-kept : (n : ℕ) (e : Engine) → Firsts (coreOf e) → HeldAll (coreOf e) → Named N M e → (isDirty e n ≡ true → (n < N) × (at (coreOf e .graph) n .net < M))
-      → After Done (λ e′. Firsts (coreOf e′) × Named N M e′) (turn n e)
+  turn-kept : (n : ℕ) (e : Engine) → Firsts (coreOf e) → HeldAll (coreOf e) → Waited N M e → (isDirty e n ≡ true → (n < N) × (at (coreOf e .graph) n .net < M))
+      → After Done (λ e′. Firsts (coreOf e′) × Waited N M e′) (turn n e)
   unfolding turn withMark withSlots withDirty netAt coreOf
   turn-kept n e f held h d = go (isDirty e n) refl
     where
-      go : (t : Bool) → isDirty e n ≡ t → After Done (λ e′. Firsts (coreOf e′) × Named N M e′)
+      go : (t : Bool) → isDirty e n ≡ t → After Done (λ e′. Firsts (coreOf e′) × Waited N M e′)
           (elim t as (λ _. Result Visited) [ true ↦ visit n (withMark n false e) >>= λ v. ok (leave (at (graphOf e) n .net) v) | false ↦ ok (passed (withDirty (withStale (e .dirty .stale - 1) (e .dirty)) e)) ])
       go true q = let l = d q in leave-kept n (l .0) (at (graphOf e) n .net) (visit n (withMark n false e)) (visit-kept n (l .0) (withMark n false e) ((f, held, l .1), h))
       go false q = (f, h)
@@ -266,22 +212,22 @@ module _ (p : Pools) (fits : poolsFit p ≡ true) (f : File FlatNet) (path : ℕ
   unfolding coreOf
   held-all r k h q = Runs.reached-rest p fits f path begins r .free k h q .held
 
-  kept : {e : Engine} → Reached p f e → Firsts (coreOf e) × Named (p .nodes) (length (included f)) e
+  kept : {e : Engine} → Reached p f e → Firsts (coreOf e) × Waited (p .nodes) (length (included f)) e
   unfolding coreOf withItems withDirty isDirty netAt
   kept (loads {e = e} q) = (load-first p f e q, λ k w m. absurd (List·Memᴰ·not-nil (subst (List·Memᴰ w) (load-idle p f e q k) m)))
   kept (turns {e = e} n q v r h t) =
       let x = kept r in
       go v (held-all (turns n q v r h t))
-      (subst (After (Done (p .nodes) (length (included f))) (λ e′. Firsts (coreOf e′) × Named (p .nodes) (length (included f)) e′)) t
+      (subst (After (Done (p .nodes) (length (included f))) (λ e′. Firsts (coreOf e′) × Waited (p .nodes) (length (included f)) e′)) t
       (turn-kept (p .nodes) (length (included f)) (q .1) (withItems (q .0) e) (x .0) (held-all r) (x .1) (dirty-named r (q .1))))
     where
-      go : (u : Visited) → HeldAll (coreOf (leaves u)) → After (Done (p .nodes) (length (included f))) (λ e′. Firsts (coreOf e′) × Named (p .nodes) (length (included f)) e′) (ok u)
-          → Firsts (coreOf (leaves u)) × Named (p .nodes) (length (included f)) (leaves u)
+      go : (u : Visited) → HeldAll (coreOf (leaves u)) → After (Done (p .nodes) (length (included f))) (λ e′. Firsts (coreOf e′) × Waited (p .nodes) (length (included f)) e′) (ok u)
+          → Firsts (coreOf (leaves u)) × Waited (p .nodes) (length (included f)) (leaves u)
       go (acted e′) held y = (y .0 held, y .1)
       go (passed e′) held y = y
 
   -- the first entry of each net's list is its free node; every wait names a slot and a net
   pub reached-entries : {e : Engine} → Reached p f e
-      → ((k : ℕ) (h : Home) → nth (homes e) k ≡ some h → nth (netAt e k .list .items) 0 ≡ some (h .free)) × Named (p .nodes) (length (included f)) e
+      → ((k : ℕ) (h : Home) → nth (homes e) k ≡ some h → nth (netAt e k .list .items) 0 ≡ some (h .free)) × Waited (p .nodes) (length (included f)) e
   unfolding coreOf
   reached-entries {e} r = let x = kept r in (λ k h q. ap (λ (l : List ℕ). nth l 0) (sym (list-at e k)) ∙ x .0 k h q, x .1)

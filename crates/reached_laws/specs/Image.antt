@@ -26,7 +26,8 @@ use Rattle.good_laws.specs.Good.{Good, rest}
 use Rattle.good_laws.specs.Idle.{Idle}
 use Rattle.fuel_laws.specs.Reached.{Reached, loads}
 use Rattle.reached_laws.specs.Files.{OfFile, reached-file}
-use Rattle.reached_laws.specs.Entries.{Named, reached-entries}
+use Rattle.waiter_laws.specs.Waiters.{Waited}
+use Rattle.reached_laws.specs.Entries.{reached-entries}
 use Rattle.reached_laws.specs.Accepted
 use Rattle.reached_laws.specs.Accepted.{freeNumber}
 
@@ -37,7 +38,7 @@ pub record Image (p : Pools) (f : File FlatNet) (e : Engine) : Type 0 where
   pub nodes : AllNodes (Writable (length (withFreePath (f .paths))) (length (f .names))) (graphOf e)
   pub wired : Rest (freeNumber f) (homes e) (graphOf e)
   pub firsts : (k : ℕ) (h : Home) → nth (homes e) k ≡ some h → nth (netAt e k .list .items) 0 ≡ some (h .free)
-  pub waits : Named (p .nodes) (length (included f)) e
+  pub waits : Waited (p .nodes) (length (included f)) e
   pub books : Good rest e
   pub idle : Idle e
 
@@ -54,7 +55,7 @@ reached-image bs b f a p fit {e} r = record {
   idle = Accepted.reached-idle bs b f a p fit r;
 }
   where
-    entries : ((k : ℕ) (h : Home) → nth (homes e) k ≡ some h → nth (netAt e k .list .items) 0 ≡ some (h .free)) × Named (p .nodes) (length (included f)) e
+    entries : ((k : ℕ) (h : Home) → nth (homes e) k ≡ some h → nth (netAt e k .list .items) 0 ≡ some (h .free)) × Waited (p .nodes) (length (included f)) e
     entries = reached-entries p fit f (freeNumber f) (Accepted.begins bs b f a p fit) r
 
 -- ---- begin and slices

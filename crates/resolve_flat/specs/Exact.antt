@@ -79,11 +79,11 @@ module _ (c d : ℕ → ℕ) (e : (w : ℕ) → w < 65536 → c w ≡ d w) (u v 
 abbrev Good : List ℕ → ℕ → Type 0
 Good ws stamp = (131072 ≤ length ws) × Below (suc stamp) ws × ((i : ℕ) → i < 65536 → getD ws (65536 + i) 0 ≤ stamp)
 
-good-zeroed : (ws : List ℕ) → scratchWords ≤ length ws → Good (zeroed scratchWords ws) 0
+good-zeroed : (ws : List ℕ) → scratchWords ≤ length ws → Good (zeroed 131072 ws) 0
 good-zeroed ws l = (
   rw zeroed-length (omega arith),
-  λ i h. let z = zeroed-get scratchWords ws i (omega arith) in rw z (omega arith),
-  λ i h. let z = zeroed-get scratchWords ws (65536 + i) (omega arith) in rw z (omega arith),
+  λ i h. let z = zeroed-get 131072 ws i (omega arith) in rw z (omega arith),
+  λ i h. let z = zeroed-get 131072 ws (65536 + i) (omega arith) in rw z (omega arith),
 )
 
 -- pairs are marked in the first half
@@ -153,11 +153,11 @@ module _ (s ws : List ℕ) (b : Bytes s) (l : scratchWords ≤ length ws) (x : F
   unfolding q bodyEnd
   inside = read-inside flat flatNetAt flatNetEnd s (stands-net s) x e
 
-  nets-are : flatNets s (zeroed scratchWords ws) 0 (q + 2) (be16 s q) ≡ nets-of
+  nets-are : flatNets s (zeroed 131072 ws) 0 (q + 2) (be16 s q) ≡ nets-of
   unfolding flatNets nets-of nets netsAt q
   nets-are =
       nets-exact s (markNet s) (λ ws stamp at. netPart ws stamp s at) (flatNetEnd s) (flatNetAt s) (λ n. writeFlatNet (resolveFlat n)) Low Good (net-up s)
-      (kept s) (same s) (zeroed scratchWords ws) 0 (q + 2) (be16 s q) inside each-low (good-zeroed ws l)
+      (kept s) (same s) (zeroed 131072 ws) 0 (q + 2) (be16 s q) inside each-low (good-zeroed ws l)
 
   whole-is : (n : ℕ) → flatWhole s ws n ≡ headBytes s q 1 (be16 s q) n ++ nets-of
   unfolding flatWhole q

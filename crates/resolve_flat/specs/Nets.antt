@@ -19,7 +19,7 @@ use Rattle.pair_writers.specs.Pairs.{netPart}
 use Rattle.convert_frame.specs.declared.Converted.the-variants.{Written, Refused}
 use Rattle.convert_frame.specs.Head.{headBytes}
 use Rattle.convert_frame.specs.Called.{scratchWords, Given, given-full, given-written}
-use Rattle.convert_frame.specs.Nets.{zeroed-set, zeroed-twice, netsWords, netsBytes, words-next, bytes-next, words-done, bytes-done, words-kept}
+use Rattle.convert_frame.specs.Nets.{zeroed-set, zeroed-within, netsWords, netsBytes, words-next, bytes-next, words-done, bytes-done, words-kept}
 
 module _ (s : List ℕ) where
   -- the scratch with the pairs and the places of the net at a place marked
@@ -40,10 +40,10 @@ module _ (s : List ℕ) where
   unfoldable pub flatWhole : List ℕ → ℕ → List ℕ
   flatWhole ws n =
       let q = within s (netCountAt s) in
-      headBytes s q 1 (be16 s q) n ++ flatNets (zeroed scratchWords ws) 0 (on s q 2) (be16 s q)
+      headBytes s q 1 (be16 s q) n ++ flatNets (zeroed 131072 ws) 0 (on s q 2) (be16 s q)
 
   unfoldable pub flatLeft : List ℕ → List ℕ
-  flatLeft ws = let q = within s (netCountAt s) in flatWords (zeroed scratchWords ws) 0 (on s q 2) (be16 s q)
+  flatLeft ws = let q = within s (netCountAt s) in flatWords (zeroed 131072 ws) 0 (on s q 2) (be16 s q)
 
   -- the result: its own length is in its length field
   unfoldable pub flatResult : List ℕ → List ℕ
@@ -85,7 +85,7 @@ module _ (s : List ℕ) where
 
   -- ---- the whole
 
-  module _ (ws w x : List ℕ) (q n a : ℕ) (ew : w ≡ zeroed scratchWords ws) (eq : q ≡ within s (netCountAt s)) (en : n ≡ be16 s q) (ea : a ≡ on s q 2) where
+  module _ (ws w x : List ℕ) (q n a : ℕ) (ew : w ≡ zeroed 131072 ws) (eq : q ≡ within s (netCountAt s)) (en : n ≡ be16 s q) (ea : a ≡ on s q 2) where
     pub whole-left : x ≡ flatWords w 0 a n → x ≡ flatLeft ws
     unfolding flatLeft
     whole-left e = e ∙ rw (ew, ea, en, eq)
@@ -99,17 +99,17 @@ module _ (s : List ℕ) where
   unfolding flatWhole headBytes
   whole-length ws n = simp (length-append, length-be)
 
-  -- marks stay below the documented length
+  -- marks stay in the table
   module _ (b : Bytes s) where
     wire-low : (at : ℕ) → be16 s at < 65536
     wire-low at = omega (arith, b at, b (at + 1))
 
-    zeroed-marked : (stamp at k : ℕ) (ws : List ℕ) → zeroed scratchWords (marked stamp (pairsAt s at k) ws) ≡ zeroed scratchWords ws
+    zeroed-marked : (m : ℕ) → 131072 ≤ m → (stamp at k : ℕ) (ws : List ℕ) → zeroed m (marked stamp (pairsAt s at k) ws) ≡ zeroed m ws
     unfolding marked pairsAt pairAt tableAt
-    zeroed-marked stamp at zero ws = refl
-    zeroed-marked stamp at (suc k) ws =
+    zeroed-marked m wide stamp at zero ws = refl
+    zeroed-marked m wide stamp at (suc k) ws =
         let v = mark stamp (be16 s at) in
-        zeroed-marked stamp (at + 4) k (set ws (be16 s (at + 2)) v) ∙ zeroed-set scratchWords ws (be16 s (at + 2)) v (omega (arith, wire-low (at + 2)))
+        zeroed-marked m wide stamp (at + 4) k (set ws (be16 s (at + 2)) v) ∙ zeroed-set m ws (be16 s (at + 2)) v (omega (arith, wire-low (at + 2)))
 
     -- the wires of a list, of nodes, of a net
     low-numbers : (at k : ℕ) → Each (λ w. w < 65536) (numbersAt s at k)
@@ -138,30 +138,30 @@ module _ (s : List ℕ) where
     unfolding placesPart nodesWires
     low-places at = low-append (listAt s (at + 7)) _ (low-list (at + 7)) (low-nodes _ _)
 
-    zeroed-seen : (stamp : ℕ) (l : List ℕ) → Each (λ w. w < 65536) l → (ws : List ℕ) → zeroed scratchWords (seen stamp l ws) ≡ zeroed scratchWords ws
+    zeroed-seen : (m : ℕ) → 131072 ≤ m → (stamp : ℕ) (l : List ℕ) → Each (λ w. w < 65536) l → (ws : List ℕ) → zeroed m (seen stamp l ws) ≡ zeroed m ws
     unfolding seen
-    zeroed-seen stamp [] h ws = refl
-    zeroed-seen stamp (w ∷ l) h ws = zeroed-seen stamp l (h .1) (set ws (65536 + w) stamp) ∙ zeroed-set scratchWords ws (65536 + w) stamp (omega (arith, h .0))
+    zeroed-seen m wide stamp [] h ws = refl
+    zeroed-seen m wide stamp (w ∷ l) h ws = zeroed-seen m wide stamp l (h .1) (set ws (65536 + w) stamp) ∙ zeroed-set m ws (65536 + w) stamp (omega (arith, h .0))
 
-    mark-kept : (ws : List ℕ) (stamp at : ℕ) → zeroed scratchWords (markNet ws stamp at) ≡ zeroed scratchWords ws
+    mark-kept : (m : ℕ) → 131072 ≤ m → (ws : List ℕ) (stamp at : ℕ) → zeroed m (markNet ws stamp at) ≡ zeroed m ws
     unfolding markNet
-    mark-kept ws stamp at = zeroed-seen stamp (placesPart s at) (low-places at) _ ∙ zeroed-marked stamp _ _ ws
+    mark-kept m wide ws stamp at = zeroed-seen m wide stamp (placesPart s at) (low-places at) _ ∙ zeroed-marked m wide stamp _ _ ws
 
-    left-kept : (ws : List ℕ) → zeroed scratchWords (flatLeft ws) ≡ zeroed scratchWords ws
+    left-kept : (m : ℕ) → 131072 ≤ m → (ws : List ℕ) → zeroed m (flatLeft ws) ≡ zeroed m ws
     unfolding flatLeft flatWords
-    left-kept ws = words-kept s markNet flatNet (flatNetEnd s) mark-kept (zeroed scratchWords ws) 0 _ _ ∙ zeroed-twice scratchWords ws
+    left-kept m wide ws = words-kept s markNet flatNet (flatNetEnd s) m (mark-kept m wide) (zeroed 131072 ws) 0 _ _ ∙ zeroed-within 131072 m ws wide
 
     -- so a result that is written after another is the same
     whole-again : (ws w : List ℕ) (n : ℕ) → w ≡ flatLeft ws → flatWhole w n ≡ flatWhole ws n
     unfolding flatWhole
-    whole-again ws w n e = let z : zeroed scratchWords w ≡ zeroed scratchWords ws = ap (zeroed scratchWords) e ∙ left-kept ws in rw z
+    whole-again ws w n e = let z : zeroed 131072 w ≡ zeroed 131072 ws = ap (zeroed 131072) e ∙ left-kept 131072 (omega arith) ws in rw z
 
   -- ---- 15, or the result
 
   module _ (ws w x y out v : List ℕ) (n : ℕ) (b : (i : ℕ) → getD s i 0 < 256) where
     pub flat-full : Wrote (flatWhole ws 0) 0 x y n → w ≡ flatLeft ws → length out < n → v ≡ zeroed scratchWords w → Given (fitted (length out) (flatResult ws)) ws out (Refused 15) v out
     unfolding flatResult
-    flat-full m e h z = given-full _ _ x y ws out n m (sym (whole-length ws _)) v h (z ∙ ap (zeroed scratchWords) e ∙ left-kept b ws)
+    flat-full m e h z = given-full _ _ x y ws out n m (sym (whole-length ws _)) v h (z ∙ ap (zeroed scratchWords) e ∙ left-kept b scratchWords (omega arith) ws)
 
     pub flat-written : (o u : List ℕ) (r : ℕ) → Wrote (flatWhole ws 0) 0 x y n → w ≡ flatLeft ws → n ≤ length out → length out < far → Wrote (flatWhole w n) 0 out o r → u ≡ flatLeft w
         → v ≡ zeroed scratchWords u → Given (fitted (length out) (flatResult ws)) ws out (Written n) v o
@@ -169,5 +169,5 @@ module _ (s : List ℕ) where
     flat-written o u r m e h l t f z =
         let k : n ≡ length (flatWhole ws 0) = omega (arith, m .is) in
         let a : flatWhole w n ≡ flatWhole ws (length (flatWhole ws 0)) = whole-again b ws w n e ∙ ap (flatWhole ws) k in
-        let i = z ∙ ap (zeroed scratchWords) f ∙ left-kept b w ∙ ap (zeroed scratchWords) e ∙ left-kept b ws in
+        let i = z ∙ ap (zeroed scratchWords) f ∙ left-kept b scratchWords (omega arith) w ∙ ap (zeroed scratchWords) e ∙ left-kept b scratchWords (omega arith) ws in
         given-written _ _ x y ws out n m (sym (whole-length ws _)) v o r h l i (wrote-as a t)

@@ -1,14 +1,14 @@
 -- A net in which trees are left hanging, written with its wires renamed, on words and bytes. Document 01: "trees left in a vicious
 -- circle keep old inner wires, and are listed last by ascending wire". Level Words.
-use Prim.Native.Nat.{ℕ, zero, suc, _+_, _-_, _%_}
+use Prim.Native.Nat.{ℕ, zero, suc, _+_, _*_, _-_, _%_}
 use mathlib.Core.List.{List}
-use Rattle.words.specs.Choose.{if-eq}
+use Rattle.words.specs.Choose.{if-eq, if-lt}
 use Rattle.net_file.specs.Write.{be}
-use Rattle.fields.specs.Fields.{byte}
+use Rattle.fields.specs.Fields.{byte, be16}
 use Rattle.ends.specs.Ends.{within}
 use Rattle.store.specs.Store.{store, between}
 use Rattle.wire_tables.specs.Tables.{hung, kept-left, kept-right}
-use Rattle.resolve_pass.specs.Pass.{next}
+use Rattle.resolve_pass.specs.Pass.{next, hung-links}
 use Rattle.resolve_walk.specs.declared.Stepped.{Stepped}
 use Rattle.resolve_walk.specs.declared.Stepped.the-variants.{At, Deep}
 use Rattle.resolve_walk.specs.Penned.{Penned, Inked}
@@ -46,24 +46,31 @@ module _ (s : List ℕ) where
   circles ws zero out w c = record { is = c; out = out }
   circles ws (suc k) out w c = let r = circle ws out (w % 65536) c in circles ws k (r .out) (next w) (r .is)
 
+  -- below which wire all trees hang that are left, of the links whose count stands at a place: the counter, or less where it is great
+  unfoldable pub left-below : List ℕ → ℕ → ℕ → ℕ
+  left-below ws links wires =
+      let n = be16 s links in
+      let t = hung-links ws s (within s (links + 2)) n 0 in
+      if-lt wires (16 * n) wires (if-lt t wires t wires)
+
   -- behind the kept links: the circles, and the count of all, which stands before them
-  unfoldable pub end-links : List ℕ → List ℕ → ℕ → ℕ → ℕ → ℕ → Inked ℕ
-  end-links ws out wires kept to place =
-      let c = circles ws wires out 0 (record { count = 0; to = place }) in
+  unfoldable pub end-links : List ℕ → List ℕ → ℕ → ℕ → ℕ → ℕ → ℕ → Inked ℕ
+  end-links ws out links wires kept to place =
+      let c = circles ws (left-below ws links wires) out 0 (record { count = 0; to = place }) in
       record { is = c .is .to; out = store to (be 2 ((kept + c .is .count) % 4294967296 % 65536)) (c .out) }
 
   -- the links: their count, the kept ones visited, then the circles
-  unfoldable pub renamed-links : List ℕ → List ℕ → ℕ → ℕ → ℕ → Penned Stepped
-  renamed-links ws out wires kept to =
+  unfoldable pub renamed-links : List ℕ → List ℕ → ℕ → ℕ → ℕ → ℕ → Penned Stepped
+  renamed-links ws out links wires kept to =
       let r = visit-links kept ws out 0 (on to 2) in
       on-step (r .is)
-      (λ pen. let e = end-links (r .ws) (r .out) wires kept to (pen .to) in record { is = At (record { from = 0; to = e .is }); ws = r .ws; out = e .out })
+      (λ pen. let e = end-links (r .ws) (r .out) links wires kept to (pen .to) in record { is = At (record { from = 0; to = e .is }); ws = r .ws; out = e .out })
       (record { is = Deep; ws = r .ws; out = r .out })
 
   -- the net at a place: its head and free count, its free trees visited, its links
-  unfoldable pub renamed : List ℕ → List ℕ → ℕ → ℕ → ℕ → ℕ → Penned Stepped
-  renamed ws out at wires kept to =
+  unfoldable pub renamed : List ℕ → List ℕ → ℕ → ℕ → ℕ → ℕ → ℕ → Penned Stepped
+  renamed ws out at links wires kept to =
       let from = within s (at + 8) in
       let n = byte s (within s (at + 7)) in
       let r = trees (tree s 64) n ws (store to (between s at from) out) from (on to 8) in
-      on-step (r .is) (λ pen. renamed-links (r .ws) (r .out) wires kept (pen .to)) (record { is = Deep; ws = r .ws; out = r .out })
+      on-step (r .is) (λ pen. renamed-links (r .ws) (r .out) links wires kept (pen .to)) (record { is = Deep; ws = r .ws; out = r .out })

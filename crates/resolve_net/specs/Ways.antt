@@ -1,17 +1,17 @@
 -- What a function of the crate leaves on each way out, and one turn of each loop, in the words of its tests and calls.
-use Prim.Native.Nat.{ℕ, zero, suc, _+_, _-_, _%_, _<_, _≤_}
+use Prim.Native.Nat.{ℕ, zero, suc, _+_, _*_, _-_, _%_, _<_, _≤_}
 use mathlib.Core.Path.{_≡_, refl, sym, ap, _∙_}
 use mathlib.Core.List.{List}
 use native.Mathlib.Nat.{not-suc-le-zero}
 use native.Mathlib.Numerals.{sub-one}
-use Rattle.words.specs.Choose.{eq-yes, eq-no}
+use Rattle.words.specs.Choose.{eq-yes, eq-no, lt-yes, lt-no}
 use Rattle.words.specs.Left
 use Rattle.net_file.specs.Write.{be}
-use Rattle.fields.specs.Fields.{byte}
+use Rattle.fields.specs.Fields.{byte, be16}
 use Rattle.ends.specs.Ends.{within}
 use Rattle.store.specs.Store.{store, between}
 use Rattle.wire_tables.specs.Tables.{hung, kept-left, kept-right}
-use Rattle.resolve_pass.specs.Pass.{next}
+use Rattle.resolve_pass.specs.Pass.{next, hung-links}
 use Rattle.resolve_walk.specs.declared.Pen.{Pen}
 use Rattle.resolve_walk.specs.declared.Stepped.{Stepped}
 use Rattle.resolve_walk.specs.declared.Stepped.the-variants.{At, Deep}
@@ -20,8 +20,8 @@ use Rattle.resolve_walk.specs.Walk.{on, on-step, tree, trees}
 use Rattle.resolve_net.specs.declared.Listed.{Listed}
 use Rattle.resolve_net.specs.declared.Ready.{Ready}
 use Rattle.resolve_net.specs.Plain.{copy-tree, copy-link, copy-links, plain}
-use Rattle.resolve_net.specs.Renamed.{visit-link, visit-links, list-tree, circle, circles, end-links, renamed-links, renamed}
-use Rattle.resolve_net.specs.Net.{onward, wires-at, prepare, resolved, net}
+use Rattle.resolve_net.specs.Renamed.{visit-link, visit-links, list-tree, circle, circles, left-below, end-links, renamed-links, renamed}
+use Rattle.resolve_net.specs.Net.{onward, wires-at, resolved}
 
 -- a contract's two equations from one, and one from two
 pub inked : {A : Type 0} {x : Inked A} {a : A} {o : List ℕ} → record { is = a; out = o } ≡ x → (a ≡ x .is) × (o ≡ x .out)
@@ -104,28 +104,42 @@ visit-links-done s ws out i (suc k) to x g h = absurd (not-suc-le-zero h)
 
 -- ---- the links of a net, and the net
 
-module _ (s ws v out o₁ : List ℕ) (wires kept to p : ℕ) (t : Stepped) (ep : p ≡ on to 2) (et : t ≡ visit-links s kept ws out 0 p .is)
+module _ (s ws : List ℕ) (links wires n : ℕ) (en : n ≡ be16 s links) where
+  pub below-few : wires < 16 * n → wires ≡ left-below s ws links wires
+  unfolding left-below
+  below-few h = rw (← en) (lt-yes _ _ _ _ h refl)
+
+  module _ (a t : ℕ) (ea : a ≡ within s (links + 2)) (many : 16 * n ≤ wires) (et : t ≡ hung-links ws s a n 0) where
+    pub below-left : t < wires → t ≡ left-below s ws links wires
+    unfolding left-below
+    below-left h = rw (← ea, ← en, ← et) (lt-no _ _ _ _ many (lt-yes _ _ _ _ h refl))
+
+    pub below-wires : wires ≤ t → wires ≡ left-below s ws links wires
+    unfolding left-below
+    below-wires h = rw (← ea, ← en, ← et) (lt-no _ _ _ _ many (lt-no _ _ _ _ h refl))
+
+module _ (s ws v out o₁ : List ℕ) (links wires kept to p : ℕ) (t : Stepped) (ep : p ≡ on to 2) (et : t ≡ visit-links s kept ws out 0 p .is)
     (ev : v ≡ visit-links s kept ws out 0 p .ws) (e₁ : o₁ ≡ visit-links s kept ws out 0 p .out) where
-  pub links-on : (o : List ℕ) (pen : Pen) (e : ℕ) → t ≡ At pen → e ≡ end-links s v o₁ wires kept to (pen .to) .is → o ≡ end-links s v o₁ wires kept to (pen .to) .out
-      → record { is = At (record { from = 0; to = e }); ws = v; out = o } ≡ renamed-links s ws out wires kept to
+  pub links-on : (o : List ℕ) (pen : Pen) (e : ℕ) → t ≡ At pen → e ≡ end-links s v o₁ links wires kept to (pen .to) .is → o ≡ end-links s v o₁ links wires kept to (pen .to) .out
+      → record { is = At (record { from = 0; to = e }); ws = v; out = o } ≡ renamed-links s ws out links wires kept to
   unfolding renamed-links on-step
   links-on o pen e h ee eo = rw (← ep, ← et, ← ev, ← e₁, h) (rw (← ee, ← eo))
 
-  pub links-deep : t ≡ Deep → record { is = Deep; ws = v; out = o₁ } ≡ renamed-links s ws out wires kept to
+  pub links-deep : t ≡ Deep → record { is = Deep; ws = v; out = o₁ } ≡ renamed-links s ws out links wires kept to
   unfolding renamed-links on-step
   links-deep h = rw (← ep, ← et, ← ev, ← e₁, h)
 
-module _ (s ws v out o₁ o₂ : List ℕ) (at wires kept to from f n p : ℕ) (t : Stepped) (ef : from ≡ within s (at + 8)) (ex : f ≡ within s (at + 7)) (en : n ≡ byte s f)
+module _ (s ws v out o₁ o₂ : List ℕ) (at links wires kept to from f n p : ℕ) (t : Stepped) (ef : from ≡ within s (at + 8)) (ex : f ≡ within s (at + 7)) (en : n ≡ byte s f)
     (e₁ : o₁ ≡ store to (between s at from) out) (ep : p ≡ on to 8) (et : t ≡ trees (tree s 64) n ws o₁ from p .is) (ev : v ≡ trees (tree s 64) n ws o₁ from p .ws)
     (e₂ : o₂ ≡ trees (tree s 64) n ws o₁ from p .out) where
-  pub renamed-on : (w o : List ℕ) (pen : Pen) (q : Stepped) → t ≡ At pen → q ≡ renamed-links s v o₂ wires kept (pen .to) .is
-      → w ≡ renamed-links s v o₂ wires kept (pen .to) .ws → o ≡ renamed-links s v o₂ wires kept (pen .to) .out
-      → record { is = q; ws = w; out = o } ≡ renamed s ws out at wires kept to
+  pub renamed-on : (w o : List ℕ) (pen : Pen) (q : Stepped) → t ≡ At pen → q ≡ renamed-links s v o₂ links wires kept (pen .to) .is
+      → w ≡ renamed-links s v o₂ links wires kept (pen .to) .ws → o ≡ renamed-links s v o₂ links wires kept (pen .to) .out
+      → record { is = q; ws = w; out = o } ≡ renamed s ws out at links wires kept to
   unfolding renamed on-step
   renamed-on w o pen q h eq ew eo =
-      rw (← ef, ← ex, ← en, ← e₁, ← ep, ← et, ← ev, ← e₂, h) (whole (renamed-links s v o₂ wires kept (pen .to)) eq ew eo)
+      rw (← ef, ← ex, ← en, ← e₁, ← ep, ← et, ← ev, ← e₂, h) (whole (renamed-links s v o₂ links wires kept (pen .to)) eq ew eo)
 
-  pub renamed-deep : t ≡ Deep → record { is = Deep; ws = v; out = o₂ } ≡ renamed s ws out at wires kept to
+  pub renamed-deep : t ≡ Deep → record { is = Deep; ws = v; out = o₂ } ≡ renamed s ws out at links wires kept to
   unfolding renamed on-step
   renamed-deep h = rw (← ef, ← ex, ← en, ← e₁, ← ep, ← et, ← ev, ← e₂, h)
 
@@ -137,17 +151,14 @@ pub onward-deep : (t : Stepped) (from : ℕ) → t ≡ Deep → Deep ≡ onward 
 unfolding onward on-step
 onward-deep t from e = rw e
 
-module _ (s ws v out : List ℕ) (at to : ℕ) (r : Ready) (er : r ≡ prepare s ws at .is) (ev : v ≡ prepare s ws at .ws) where
-  ready-is : prepare s ws at ≡ record { is = r; ws = v }
-  ready-is = sym (Left.whole (prepare s ws at) er ev)
+module _ (s ws out : List ℕ) (at to : ℕ) (r : Ready) where
+  pub net-plain : (o : List ℕ) (p : ℕ) → r .left ≡ 0 → p ≡ plain s ws out at (r .links) (r .kept) to .is → o ≡ plain s ws out at (r .links) (r .kept) to .out
+      → record { is = At (record { from = r .end; to = p }); ws = ws; out = o } ≡ resolved s r ws out at to
+  unfolding resolved
+  net-plain o p z ep eo = eq-yes _ _ _ _ z (rw (ep, eo))
 
-  pub net-plain : (o : List ℕ) (p : ℕ) → r .left ≡ 0 → p ≡ plain s v out at (r .links) (r .kept) to .is → o ≡ plain s v out at (r .links) (r .kept) to .out
-      → record { is = At (record { from = r .end; to = p }); ws = v; out = o } ≡ net s ws out at to
-  unfolding net resolved
-  net-plain o p z ep eo = rw ready-is (eq-yes _ _ _ _ z (rw (ep, eo)))
-
-  pub net-renamed : (w o : List ℕ) (n : ℕ) (t q : Stepped) → (r .left ≡ 0 → ⊥) → n ≡ wires-at s at → t ≡ renamed s v out at n (r .kept) to .is
-      → w ≡ renamed s v out at n (r .kept) to .ws → o ≡ renamed s v out at n (r .kept) to .out → q ≡ onward t (r .end)
-      → record { is = q; ws = w; out = o } ≡ net s ws out at to
-  unfolding net resolved
-  net-renamed w o n t q nz en et ew eo eq = rw ready-is (eq-no _ _ _ _ nz (rw (eq, et, ew, eo, en)))
+  pub net-renamed : (w o : List ℕ) (n : ℕ) (t q : Stepped) → (r .left ≡ 0 → ⊥) → n ≡ wires-at s at → t ≡ renamed s ws out at (r .links) n (r .kept) to .is
+      → w ≡ renamed s ws out at (r .links) n (r .kept) to .ws → o ≡ renamed s ws out at (r .links) n (r .kept) to .out → q ≡ onward t (r .end)
+      → record { is = q; ws = w; out = o } ≡ resolved s r ws out at to
+  unfolding resolved
+  net-renamed w o n t q nz en et ew eo eq = eq-no _ _ _ _ nz (rw (eq, et, ew, eo, en))

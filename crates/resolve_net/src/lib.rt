@@ -3,8 +3,8 @@ use resolve_walk::Pen;
 use resolve_walk::Stepped;
 ghost use mathlib.Core.Path.{_≡_};
 ghost use Rattle.resolve_net.specs.Plain.{copy-tree, copy-link, copy-links, plain};
-ghost use Rattle.resolve_net.specs.Renamed.{visit-link, visit-links, circle, circles, end-links, renamed-links, renamed};
-ghost use Rattle.resolve_net.specs.Net.{wires-at, pass-links, prepare, onward, net};
+ghost use Rattle.resolve_net.specs.Renamed.{visit-link, visit-links, circle, circles, left-below, end-links, renamed-links, renamed};
+ghost use Rattle.resolve_net.specs.Net.{wires-at, pass-links, prepare, onward, resolved, freed, net};
 
 // ---- as it stands
 
@@ -136,19 +136,38 @@ fn circles(ws: &[u32], s: &[u8], out: &mut [u8], wires: u32, to: usize) -> Liste
     c
 }
 
+// Below which wire all trees hang that are left, of the links whose count stands at a place: the counter, or less where it is so
+// great that to look at each wire below it would take longer than to look at the links.
+fn left_below(ws: &[u32], s: &[u8], links: usize, wires: u32) -> u32
+    ensures { λ r. ⌜ r ≡ left-below (now (s .entry)) (now (ws .entry)) links wires ⌝ }
+{
+    let from = ends::on(s, links, 2);
+    let n = fields::be16(s, links) as u32;
+    if wires < 16 * n {
+        return wires;
+    }
+    let t = resolve_pass::hung_links(ws, s, from, n);
+    if t < wires {
+        return t;
+    }
+    wires
+}
+
 // Behind the kept links: the circles, and the count of all, which stands before them; the place behind.
 fn end_links(
     ws: &[u32],
     s: &[u8],
     out: &mut [u8],
+    links: usize,
     wires: u32,
     kept: u32,
     to: usize,
     place: usize,
 ) -> usize
-    ensures { λ r. ⌜ (r ≡ end-links (now (s .entry)) (now (ws .entry)) (now (out .entry)) wires kept to place .is) × (now (out .exit) ≡ end-links (now (s .entry)) (now (ws .entry)) (now (out .entry)) wires kept to place .out) ⌝ }
+    ensures { λ r. ⌜ (r ≡ end-links (now (s .entry)) (now (ws .entry)) (now (out .entry)) links wires kept to place .is) × (now (out .exit) ≡ end-links (now (s .entry)) (now (ws .entry)) (now (out .entry)) links wires kept to place .out) ⌝ }
 {
-    let c = circles(ws, s, out, wires, place);
+    let below = left_below(ws, s, links, wires);
+    let c = circles(ws, s, out, below, place);
     let n = std::num::wrapping_add_u32(kept, c.count);
     store::store16(out, to, (n % 65536) as u16);
     c.to
@@ -159,16 +178,17 @@ fn renamed_links(
     ws: &mut [u32],
     s: &[u8],
     out: &mut [u8],
+    links: usize,
     wires: u32,
     kept: u32,
     to: usize,
 ) -> Stepped
-    ensures { λ r. ⌜ (r ≡ renamed-links (now (s .entry)) (now (ws .entry)) (now (out .entry)) wires kept to .is) × (now (ws .exit) ≡ renamed-links (now (s .entry)) (now (ws .entry)) (now (out .entry)) wires kept to .ws) × (now (out .exit) ≡ renamed-links (now (s .entry)) (now (ws .entry)) (now (out .entry)) wires kept to .out) ⌝ }
+    ensures { λ r. ⌜ (r ≡ renamed-links (now (s .entry)) (now (ws .entry)) (now (out .entry)) links wires kept to .is) × (now (ws .exit) ≡ renamed-links (now (s .entry)) (now (ws .entry)) (now (out .entry)) links wires kept to .ws) × (now (out .exit) ≡ renamed-links (now (s .entry)) (now (ws .entry)) (now (out .entry)) links wires kept to .out) ⌝ }
 {
     let t = visit_links(ws, s, out, kept, resolve_walk::on(to, 2));
     match t {
         Stepped::At(pen) => {
-            let place = end_links(ws, s, out, wires, kept, to, pen.to);
+            let place = end_links(ws, s, out, links, wires, kept, to, pen.to);
             Stepped::At(Pen { from: 0, to: place })
         }
         Stepped::Deep => Stepped::Deep,
@@ -181,18 +201,19 @@ fn renamed(
     s: &[u8],
     out: &mut [u8],
     at: usize,
+    links: usize,
     wires: u32,
     kept: u32,
     to: usize,
 ) -> Stepped
-    ensures { λ r. ⌜ (r ≡ renamed (now (s .entry)) (now (ws .entry)) (now (out .entry)) at wires kept to .is) × (now (ws .exit) ≡ renamed (now (s .entry)) (now (ws .entry)) (now (out .entry)) at wires kept to .ws) × (now (out .exit) ≡ renamed (now (s .entry)) (now (ws .entry)) (now (out .entry)) at wires kept to .out) ⌝ }
+    ensures { λ r. ⌜ (r ≡ renamed (now (s .entry)) (now (ws .entry)) (now (out .entry)) at links wires kept to .is) × (now (ws .exit) ≡ renamed (now (s .entry)) (now (ws .entry)) (now (out .entry)) at links wires kept to .ws) × (now (out .exit) ≡ renamed (now (s .entry)) (now (ws .entry)) (now (out .entry)) at links wires kept to .out) ⌝ }
 {
     let from = ends::on(s, at, 8);
     let n = fields::byte(s, ends::on(s, at, 7)) as u32;
     store::copy(out, to, s, at, from);
     let t = resolve_walk::trees(ws, s, out, from, n, resolve_walk::on(to, 8), 64);
     match t {
-        Stepped::At(pen) => renamed_links(ws, s, out, wires, kept, pen.to),
+        Stepped::At(pen) => renamed_links(ws, s, out, links, wires, kept, pen.to),
         Stepped::Deep => Stepped::Deep,
     }
 }
@@ -230,11 +251,10 @@ fn pass_links(ws: &mut [u32], s: &[u8], links: usize) -> Ready
     }
 }
 
-// The tables of the net at a place.
+// The tables of the net at a place, of tables in which nothing is said.
 fn prepare(ws: &mut [u32], s: &[u8], at: usize) -> Ready
     ensures { λ r. ⌜ (r ≡ prepare (now (s .entry)) (now (ws .entry)) at .is) × (now (ws .exit) ≡ prepare (now (s .entry)) (now (ws .entry)) at .ws) ⌝ }
 {
-    wire_tables::clear(ws, wires_at(s, at));
     let links = scan_tree::links_at(s, at);
     pass_links(ws, s, links)
 }
@@ -249,11 +269,10 @@ fn onward(t: Stepped, from: usize) -> Stepped
     }
 }
 
-// The net at a place of the file, at a place of the output.
-pub fn net(ws: &mut [u32], s: &[u8], out: &mut [u8], at: usize, to: usize) -> Stepped
-    ensures { λ r. ⌜ (r ≡ net (now (s .entry)) (now (ws .entry)) (now (out .entry)) at to .is) × (now (ws .exit) ≡ net (now (s .entry)) (now (ws .entry)) (now (out .entry)) at to .ws) × (now (out .exit) ≡ net (now (s .entry)) (now (ws .entry)) (now (out .entry)) at to .out) ⌝ }
+// The net as it stands, or renamed.
+fn resolved(ws: &mut [u32], s: &[u8], out: &mut [u8], at: usize, to: usize, r: Ready) -> Stepped
+    ensures { λ t. ⌜ (t ≡ resolved (now (s .entry)) r (now (ws .entry)) (now (out .entry)) at to .is) × (now (ws .exit) ≡ resolved (now (s .entry)) r (now (ws .entry)) (now (out .entry)) at to .ws) × (now (out .exit) ≡ resolved (now (s .entry)) r (now (ws .entry)) (now (out .entry)) at to .out) ⌝ }
 {
-    let r = prepare(ws, s, at);
     if r.left == 0 {
         let place = plain(ws, s, out, at, r.links, r.kept, to);
         return Stepped::At(Pen {
@@ -261,6 +280,25 @@ pub fn net(ws: &mut [u32], s: &[u8], out: &mut [u8], at: usize, to: usize) -> St
             to: place,
         });
     }
-    let t = renamed(ws, s, out, at, wires_at(s, at), r.kept, to);
+    let t = renamed(ws, s, out, at, r.links, wires_at(s, at), r.kept, to);
     onward(t, r.end)
+}
+
+// Of the links whose count stands at a place nothing is left in the tables.
+fn free(ws: &mut [u32], s: &[u8], links: usize)
+    ensures { λ _. ⌜ now (ws .exit) ≡ freed (now (s .entry)) (now (ws .entry)) links ⌝ }
+{
+    let from = ends::on(s, links, 2);
+    let n = fields::be16(s, links) as u32;
+    resolve_pass::free_links(ws, s, from, n)
+}
+
+// The net at a place of the file, at a place of the output, of tables in which nothing is said, as it is then too.
+pub fn net(ws: &mut [u32], s: &[u8], out: &mut [u8], at: usize, to: usize) -> Stepped
+    ensures { λ r. ⌜ (r ≡ net (now (s .entry)) (now (ws .entry)) (now (out .entry)) at to .is) × (now (ws .exit) ≡ net (now (s .entry)) (now (ws .entry)) (now (out .entry)) at to .ws) × (now (out .exit) ≡ net (now (s .entry)) (now (ws .entry)) (now (out .entry)) at to .out) ⌝ }
+{
+    let r = prepare(ws, s, at);
+    let t = resolved(ws, s, out, at, to, r);
+    free(ws, s, r.links);
+    t
 }

@@ -126,6 +126,22 @@ module _ (s : List ℕ) (n : ℕ) (ws : List ℕ) (es : List (ℕ × Tree)) (few
   unfolding circles
   circles-end out w c = refl
 
+  -- where nothing is left on the last wires, they need not be looked at
+  circles-none : (k : ℕ) (out : List ℕ) (w : ℕ) (c : Listed) → w + k ≤ 65536 → ((v : ℕ) → w ≤ v → v < w + k → hung ws v ≡ 0) → circles s ws k out w c ≡ record { is = c; out = out }
+  unfolding code.circle
+  circles-none zero out w c l z = circles-end out w c
+  circles-none (suc k) out w c l z =
+      let e : record { is = c; out = out } ≡ code.circle s ws out w c = eq-yes (hung ws w) 0 _ _ (z w (omega arith) (omega arith)) refl in
+      rw (circles-step k out w c (omega arith), ← e) (circles-none k out (suc w) c (omega arith) (λ v h i. z v (omega arith) (omega arith)))
+
+  pub circles-less : (m k : ℕ) (out : List ℕ) (w : ℕ) (c : Listed) → m ≤ k → w + k ≤ 65536 → ((v : ℕ) → w + m ≤ v → v < w + k → hung ws v ≡ 0)
+      → circles s ws m out w c ≡ circles s ws k out w c
+  circles-less zero k out w c h l z = circles-end out w c ∙ sym (circles-none k out w c l (λ v i j. z v (omega arith) j))
+  circles-less (suc m) zero out w c h l z = absurd (omega arith)
+  circles-less (suc m) (suc k) out w c h l z =
+      rw (circles-step m out w c (omega arith), circles-step k out w c (omega arith))
+      (circles-less m k _ (suc w) _ (omega arith) (omega arith) (λ v i j. z v (omega arith) (omega arith)))
+
   pub circles-list : (k : ℕ) (out : List ℕ) (w : ℕ) (c : Listed) → w + k ≤ n → c .to ≤ most → c .count ≤ w → Lists out c (ascending es w k) (circles s ws k out w c)
   unfolding ascending
   circles-list zero out w c l low f = rw (circles-end out w c) (lists-none out c low)

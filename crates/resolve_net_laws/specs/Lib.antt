@@ -3,6 +3,8 @@ pub mod Visited
 pub mod Circles
 pub mod Lies
 pub mod Ways
+pub mod Only
+pub mod Touched
 pub mod Renamed
 pub mod Net
 pub mod Spelt

@@ -19,8 +19,8 @@ use Rattle.conversions.specs.Resolve.{Hung, wireLinks, pass, visitAll, visit, v
 use Rattle.fields.specs.Fields.{be16}
 use Rattle.ends.specs.Ends.{within}
 use Rattle.store.specs.Store.{store}
-use Rattle.wire_tables.specs.Tables.{cleared}
-use Rattle.wire_tables_laws.specs.Table.{length-cleared, cleared-links, cleared-trees}
+use Rattle.net_file_laws.specs.Bytes.{Bytes}
+use Rattle.wire_tables_laws.specs.Table.{Empty, table-empty}
 use Rattle.wire_tables_laws.specs.Linked.{LinkFor}
 use Rattle.resolve_pass.specs.declared.Passed.{Passed}
 use Rattle.resolve_pass.specs.Pass as code
@@ -31,7 +31,7 @@ use Rattle.resolve_walk.specs.Walk.{on, on-step}
 use Rattle.resolve_net.specs.declared.Ready.{Ready}
 use Rattle.resolve_net.specs.Plain.{plain}
 use Rattle.resolve_net.specs.Renamed.{renamed}
-use Rattle.resolve_net.specs.Net.{onward, wires-at, pass-links, prepare, resolved, net}
+use Rattle.resolve_net.specs.Net.{onward, wires-at, pass-links, prepare, resolved, freed, net}
 use Rattle.resolve_laws.specs.Walk.{walkAll, walk, cut, limitedAll}
 use Rattle.resolve_laws.specs.Keys.{Keys}
 use Rattle.resolve_laws.specs.Kept.{IsNode, Hang, Nodes, Low, Keeps, all-keeps}
@@ -45,6 +45,8 @@ use Rattle.resolve_pass_laws.specs.Passing.{Passing, Came, passes}
 use Rattle.resolve_net_laws.specs.Copied.{Put}
 use Rattle.resolve_net_laws.specs.Lies.{NetLies}
 use Rattle.resolve_net_laws.specs.Ways.{plain-is}
+use Rattle.resolve_net_laws.specs.Only.{Only}
+use Rattle.resolve_net_laws.specs.Touched.{Mine, prepared-only, freed-long}
 use Rattle.resolve_net_laws.specs.Renamed.{Whole, RenamedIs, renamed-is}
 
 -- ---- a sorted list is as long
@@ -65,25 +67,25 @@ sorted-length (e ∷ es) = put-length e (sorted es) ∙ ap suc (sorted-length es
 
 -- ---- both passes
 
-module _ (s : List ℕ) (m : TreeNet) (at p : ℕ) (k : NetLies s m at p) (small : length s ≤ 4294967299) (ws : List ℕ) (room : 262144 ≤ length ws) where
+module _ (s : List ℕ) (m : TreeNet) (at p : ℕ) (k : NetLies s m at p) (small : length s ≤ 4294967299) (ws : List ℕ) (room : 262144 ≤ length ws) (bytes : Bytes s) (empty : Empty ws) where
   abbrev n : ℕ
   n = m .wires
 
   abbrev none-yet : Passed
   none-yet = record { kept = 0; left = 0 }
 
-  start : Meant s n (cleared ws n) (record { links = []; trees = [] })
-  start = let f = k .few in record { links = cleared-links (LinkFor n) ws n (omega arith); trees = cleared-trees (HungAt s n) ws n (omega arith) }
+  start : Meant s n ws (record { links = []; trees = [] })
+  start = let f = k .few in record { links = table-empty (LinkFor n) 0 n ws (omega arith) empty; trees = table-empty (HungAt s n) 65536 n ws (omega arith) empty }
 
   abbrev linked : Left ℕ
-  linked = code.wire-links (cleared ws n) s (p + 2) (length (m .links))
+  linked = code.wire-links ws s (p + 2) (length (m .links))
 
   -- behind the net
   abbrev pub end : ℕ
   end = p + 2 + linksLong s n (k .few) (m .links)
 
-  linking : (linked .is ≡ end) × Linking s n (k .few) (cleared ws n) (linked .ws) (record { links = wireLinks (m .links) []; trees = [] })
-  linking = links-are s n (k .few) (m .links) (cleared ws n) (record { links = []; trees = [] }) (p + 2) (k .lies) start
+  linking : (linked .is ≡ end) × Linking s n (k .few) ws (linked .ws) (record { links = wireLinks (m .links) []; trees = [] })
+  linking = links-are s n (k .few) (m .links) ws (record { links = []; trees = [] }) (p + 2) (k .lies) start
 
   abbrev done : Left Passed
   done = code.pass (linked .ws) s (p + 2) (length (m .links)) none-yet
@@ -92,7 +94,6 @@ module _ (s : List ℕ) (m : TreeNet) (at p : ℕ) (k : NetLies s m at p) (small
   unfolding Keys Low Hang
   came =
       let f = k .fewLinks in
-      let l = length-cleared ws n in
       let g = linking .1 .above .long in
       passes s n (k .few) small (m .links) (linked .ws) (record { links = wireLinks (m .links) []; trees = [] }) none-yet (p + 2) (k .lies) (record {
         meant = linking .1 .meant;
@@ -107,7 +108,7 @@ module _ (s : List ℕ) (m : TreeNet) (at p : ℕ) (k : NetLies s m at p) (small
       })
 
   long : length (done .ws) ≡ length ws
-  long = came .before .long ∙ linking .1 .above .long ∙ length-cleared ws n
+  long = came .before .long ∙ linking .1 .above .long
 
   -- only nodes are left hanging
   pub left-nodes : Nodes (passed m .1 .trees)
@@ -118,7 +119,11 @@ module _ (s : List ℕ) (m : TreeNet) (at p : ℕ) (k : NetLies s m at p) (small
   prepare-is =
       let r = k .room in
       let i : within s (p + 2) ≡ p + 2 = omega arith in
-      rw (k .wires, k .place, i, k .links, linking .0)
+      rw (k .place, i, k .links, linking .0)
+
+  -- the tables speak of the wires of links only
+  mine : Only (Mine s bytes at) (done .ws)
+  mine = subst (λ (x : Left Ready). Only (Mine s bytes at) (x .ws)) prepare-is (prepared-only s bytes at ws empty)
 
   -- ---- the net
 
@@ -145,15 +150,15 @@ module _ (s : List ℕ) (m : TreeNet) (at p : ℕ) (k : NetLies s m at p) (small
     copied = plain s (done .ws) out at p (length ls) to
 
     abbrev visited : Penned Stepped
-    visited = renamed s (done .ws) out at n (length ls) to
+    visited = renamed s (done .ws) out at p n (length ls) to
 
-    net-zero : done .is .left ≡ 0 → net s ws out at to ≡ record { is = At (record { from = end; to = copied .is }); ws = done .ws; out = copied .out }
+    net-zero : done .is .left ≡ 0 → net s ws out at to ≡ record { is = At (record { from = end; to = copied .is }); ws = freed s (done .ws) p; out = copied .out }
     unfolding net resolved
-    net-zero z = rw (prepare-is, kept-is) (sym (eq-yes (done .is .left) 0 _ _ z refl))
+    net-zero z = rw (prepare-is, kept-is, ← eq-yes {A = Penned Stepped} (done .is .left) 0 (record { is = At (record { from = end; to = copied .is }); ws = done .ws; out = copied .out }) _ z refl)
 
-    net-more : (done .is .left ≡ 0 → ⊥) → net s ws out at to ≡ record { is = onward (visited .is) end; ws = visited .ws; out = visited .out }
+    net-more : (done .is .left ≡ 0 → ⊥) → net s ws out at to ≡ record { is = onward (visited .is) end; ws = freed s (visited .ws) p; out = visited .out }
     unfolding net resolved
-    net-more z = rw (prepare-is, kept-is, k .wires) (sym (eq-no (done .is .left) 0 _ _ z refl))
+    net-more z = rw (prepare-is, kept-is, k .wires, ← eq-no {A = Penned Stepped} (done .is .left) 0 _ (record { is = onward (visited .is) end; ws = visited .ws; out = visited .out }) z refl)
 
     plain-net : done .is .left ≡ 0 → NetOut (walked m) (net s ws out at to)
     unfolding walked walkedBy
@@ -162,7 +167,7 @@ module _ (s : List ℕ) (m : TreeNet) (at p : ℕ) (k : NetLies s m at p) (small
         let c = kept-is in
         let e : length (h .trees) ≡ 0 = sym (came .passing .left) ∙ z in
         let q = plain-is s m at p k out to low (done .ws) ls (came .from) (omega arith) in
-        rw (net-zero z, eq-eqb (length (h .trees)) 0 e) (record { is = ap (λ j. At (record { from = end; to = j })) (q .is); long = long; stored = q .stored })
+        rw (net-zero z, eq-eqb (length (h .trees)) 0 e) (record { is = ap (λ j. At (record { from = end; to = j })) (q .is); long = freed-long s (done .ws) p ∙ long; stored = q .stored })
 
     onward-deep : (t : Stepped) → t ≡ Deep → onward t end ≡ Deep
     unfolding onward on-step
@@ -172,10 +177,10 @@ module _ (s : List ℕ) (m : TreeNet) (at p : ℕ) (k : NetLies s m at p) (small
     unfolding onward on-step
     onward-on t j e = rw e
 
-    onward-out : (y : Result TreeNet) → RenamedIs s m at p k (done .ws) out to low ls h (came .from) (came .passing .meant) y visited
-        → NetOut y (record { is = onward (visited .is) end; ws = visited .ws; out = visited .out })
+    onward-out : (y : Result TreeNet) → RenamedIs s m at p k (done .ws) out to low ls h (came .from) (came .passing .meant) bytes mine y visited
+        → NetOut y (record { is = onward (visited .is) end; ws = freed s (visited .ws) p; out = visited .out })
     onward-out (refuse r) g = onward-deep (visited .is) g
-    onward-out (ok y) g = record { is = onward-on (visited .is) (on to (length (writeTreeNet y))) (g .is); long = g .frame .long ∙ long; stored = g .stored }
+    onward-out (ok y) g = record { is = onward-on (visited .is) (on to (length (writeTreeNet y))) (g .is); long = freed-long s (visited .ws) p ∙ g .frame .long ∙ long; stored = g .stored }
 
     renamed-net : (done .is .left ≡ 0 → ⊥) → NetOut (walked m) (net s ws out at to)
     unfolding walked walkedBy limitedAll
@@ -193,7 +198,7 @@ module _ (s : List ℕ) (m : TreeNet) (at p : ℕ) (k : NetLies s m at p) (small
         let l = came .passing .left in
         let f = came .passing .fewBoth in
         let q = kept-is in
-        let g = renamed-is s m at p k (done .ws) out to low ls h (came .from) (came .passing .meant) (deeperAny 64 (u .0)) (deepLinks 64 (v .0)) u v ea eb
+        let g = renamed-is s m at p k (done .ws) out to low ls h (came .from) (came .passing .meant) bytes mine (deeperAny 64 (u .0)) (deepLinks 64 (v .0)) u v ea eb
         (kv .keys (ku .keys (came .passing .keys))) (kv .low n (ku .low n (came .passing .low))) (omega (arith, sorted-length (v .1 .trees))) in
         let t : eqb c 0 ≡ false = ne-eqb c 0 (λ y. z (l ∙ y)) in
         rw (net-more z, t, ea) (onward-out (onFree m ls (cut (deeperAny 64 (u .0)) u)) g)

@@ -19,7 +19,7 @@ use Rattle.resolve_walk.specs.declared.Stepped.the-variants.{At, Deep}
 use Rattle.resolve_walk.specs.Penned.{Penned, Inked}
 use Rattle.resolve_walk.specs.Walk.{on, on-step}
 use Rattle.resolve_walk.specs.Walk as code
-use Rattle.resolve_net.specs.Renamed.{visit-links, end-links, renamed-links, renamed}
+use Rattle.resolve_net.specs.Renamed.{visit-links, left-below, end-links, renamed-links, renamed}
 use Rattle.resolve_laws.specs.Walk.{walkAll, walk, cut}
 use Rattle.resolve_laws.specs.Keys.{Keys}
 use Rattle.resolve_laws.specs.Kept.{Low}
@@ -32,21 +32,25 @@ use Rattle.resolve_pass_laws.specs.Keeping.{KeptFrom}
 use Rattle.resolve_net_laws.specs.Copied.{between-is, Put}
 use Rattle.resolve_net_laws.specs.Visited.{kept-frame, LinksOut, links-visit}
 use Rattle.resolve_net_laws.specs.Lies.{front, NetLies, net-bytes}
+use Rattle.net_file_laws.specs.Bytes.{Bytes}
+use Rattle.wire_tables.specs.Tables.{hung}
+use Rattle.resolve_net_laws.specs.Only.{Only, visited-only, frees-only}
+use Rattle.resolve_net_laws.specs.Touched.{Mine, none-above}
 use Rattle.resolve_net_laws.specs.Ways.{allLinks, linkBytes, links-ended}
 
 -- ---- the links
 
-module _ (s : List ℕ) (n : ℕ) (few : n ≤ 65536) (ws out : List ℕ) (to : ℕ) (low : to ≤ most) (ls : List (Tree × Tree)) where
+module _ (s : List ℕ) (n : ℕ) (few : n ≤ 65536) (ws out : List ℕ) (to : ℕ) (low : to ≤ most) (ls : List (Tree × Tree)) (at : ℕ) where
   abbrev visited : Penned Stepped
   visited = visit-links s (length ls) ws out 0 (on to 2)
 
-  links-deep : visited .is ≡ Deep → renamed-links s ws out n (length ls) to .is ≡ Deep
+  links-deep : visited .is ≡ Deep → renamed-links s ws out at n (length ls) to .is ≡ Deep
   unfolding renamed-links on-step
   links-deep e = rw e
 
   links-on : (p : ℕ) → visited .is ≡ At (record { from = 0; to = p })
-      → renamed-links s ws out n (length ls) to
-      ≡ record { is = At (record { from = 0; to = end-links s (visited .ws) (visited .out) n (length ls) to p .is }); ws = visited .ws; out = end-links s (visited .ws) (visited .out) n (length ls) to p .out }
+      → renamed-links s ws out at n (length ls) to
+      ≡ record { is = At (record { from = 0; to = end-links s (visited .ws) (visited .out) at n (length ls) to p .is }); ws = visited .ws; out = end-links s (visited .ws) (visited .out) at n (length ls) to p .out }
   unfolding renamed-links on-step
   links-on p e = rw e
 
@@ -55,16 +59,20 @@ module _ (s : List ℕ) (n : ℕ) (few : n ≤ 65536) (ws out : List ℕ) (to : 
   LinksAre none x = x .is ≡ Deep
   LinksAre (some q) x = Wrote s n ws out 0 to (linkBytes s n few q) (q .1) x
 
-  links-out : (b : Bool) (v : List (Tree × Tree) × Hung) → Keys (v .1 .trees) → Low n (v .1 .trees) → length ls + length (sorted (v .1 .trees)) ≤ 65535
-      → LinksOut s n few ws out (on to 2) (length ls) (cut b v) visited → LinksAre (cut b v) (renamed-links s ws out n (length ls) to)
+  -- on no wire above those of the links at `at` on which one does hangs a tree that is left
+  abbrev None : Type 0
+  None = (v : ℕ) → v < n → left-below s (visited .ws) at n ≤ v → hung (visited .ws) v ≡ 0
+
+  links-out : (b : Bool) (v : List (Tree × Tree) × Hung) → Keys (v .1 .trees) → Low n (v .1 .trees) → length ls + length (sorted (v .1 .trees)) ≤ 65535 → None
+      → LinksOut s n few ws out (on to 2) (length ls) (cut b v) visited → LinksAre (cut b v) (renamed-links s ws out at n (length ls) to)
   unfolding cut
-  links-out true v keys below fewer g = links-deep g
-  links-out false v keys below fewer g =
+  links-out true v keys below fewer nothing g = links-deep g
+  links-out false v keys below fewer nothing g =
       let w = g .0 in
       let c = g .1 in
       let p = on (on to 2) (length (concatMap writeLink (v .0))) in
-      let put = links-ended s n few ws out to low v visited w keys below (omega arith) in
-      let e : Put out to (linkBytes s n few v) (end-links s (visited .ws) (visited .out) n (length ls) to p) = rw c at put in
+      let put = links-ended s n few ws out to low v visited w keys below (omega arith) at nothing in
+      let e : Put out to (linkBytes s n few v) (end-links s (visited .ws) (visited .out) at n (length ls) to p) = rw c at put in
       rw (links-on p (w .is)) (record {
         is = ap (λ j. At (record { from = 0; to = j })) (e .is);
         meant = w .meant;
@@ -73,22 +81,22 @@ module _ (s : List ℕ) (n : ℕ) (few : n ≤ 65536) (ws out : List ℕ) (to : 
       })
 
   pub links-are : (h : Hung) (b : Bool) (v : List (Tree × Tree) × Hung) → KeptFrom s n few ws 0 ls → Meant s n ws h → walkLinks 64 ls h ≡ cut b v → Keys (v .1 .trees) → Low n (v .1 .trees)
-      → length ls + length (sorted (v .1 .trees)) ≤ 65535 → LinksAre (cut b v) (renamed-links s ws out n (length ls) to)
-  links-are h b v k m e keys below fewer =
-      links-out b v keys below fewer (rw e at (links-visit s n few ls h ws out 0 (on to 2) k m (omega arith) (on-most to low 2)))
+      → length ls + length (sorted (v .1 .trees)) ≤ 65535 → None → LinksAre (cut b v) (renamed-links s ws out at n (length ls) to)
+  links-are h b v k m e keys below fewer nothing =
+      links-out b v keys below fewer nothing (rw e at (links-visit s n few ls h ws out 0 (on to 2) k m (omega arith) (on-most to low 2)))
 
 -- ---- the net
 
 module _ (s : List ℕ) (m : TreeNet) (at p : ℕ) (k : NetLies s m at p) (ws out : List ℕ) (to : ℕ) (low : to ≤ most) (ls : List (Tree × Tree)) (h : Hung)
-    (kept : KeptFrom s (m .wires) (k .few) ws 0 ls) (meant : Meant s (m .wires) ws h) where
+    (kept : KeptFrom s (m .wires) (k .few) ws 0 ls) (meant : Meant s (m .wires) ws h) (bytes : Bytes s) (mine : Only (Mine s bytes at) ws) where
   abbrev n : ℕ
   n = m .wires
 
   abbrev frees : Penned Stepped
   frees = code.trees (code.tree s 64) (length (m .free)) ws (store to (front m) out) (at + 8) (on to 8)
 
-  renamed-as : renamed s ws out at n (length ls) to
-      ≡ on-step (frees .is) (λ pen. renamed-links s (frees .ws) (frees .out) n (length ls) (pen .to)) (record { is = Deep; ws = frees .ws; out = frees .out })
+  renamed-as : renamed s ws out at p n (length ls) to
+      ≡ on-step (frees .is) (λ pen. renamed-links s (frees .ws) (frees .out) p n (length ls) (pen .to)) (record { is = Deep; ws = frees .ws; out = frees .out })
   unfolding renamed
   renamed-as =
       let e = k .eight in
@@ -142,7 +150,7 @@ module _ (s : List ℕ) (m : TreeNet) (at p : ℕ) (k : NetLies s m at p) (ws ou
   -- the links behind the free trees
   links-whole : (u : Trees × Hung) (b : Bool) (v : List (Tree × Tree) × Hung) (x : Penned Stepped) → length (listed (u .0)) ≡ length (m .free)
       → Wrote s n ws (store to (front m) out) free-end (on to 8) (writeTrees (u .0)) (u .1) frees
-      → LinksAre s n (k .few) (frees .ws) (frees .out) (on (on to 8) (length (writeTrees (u .0)))) (on-most (on to 8) (on-most to low 8) (length (writeTrees (u .0)))) ls (cut b v) x
+      → LinksAre s n (k .few) (frees .ws) (frees .out) (on (on to 8) (length (writeTrees (u .0)))) (on-most (on to 8) (on-most to low 8) (length (writeTrees (u .0)))) ls p (cut b v) x
       → RenamedIs (onLinks m (listed (u .0)) (cut b v)) x
   unfolding cut onLinks
   links-whole u true v x c w g = g
@@ -161,17 +169,22 @@ module _ (s : List ℕ) (m : TreeNet) (at p : ℕ) (k : NetLies s m at p) (ws ou
         stored = λ room small. w₂ .stored (rw bytes room) small ∙ ap (λ bs. store to bs out) bytes;
       }
 
+  nothing-above : (q v : ℕ) → v < n → left-below s (visit-links s (length ls) (frees .ws) (frees .out) 0 (on q 2) .ws) p n ≤ v → hung (visit-links s (length ls) (frees .ws) (frees .out) 0 (on q 2) .ws) v ≡ 0
+  nothing-above q v h l =
+      let o = visited-only (Mine s bytes at) s (length ls) (frees .ws) (frees .out) 0 (on q 2) (frees-only (Mine s bytes at) s (length (m .free)) ws (store to (front m) out) (at + 8) (on to 8) mine) in
+      none-above s bytes at _ n v (k .few) o h (rw (k .place) l)
+
   pub renamed-is : (a b : Bool) (u : Trees × Hung) (v : List (Tree × Tree) × Hung) → walkAll (walk 64) (trees (m .free)) h ≡ cut a u → walkLinks 64 ls (u .1) ≡ cut b v
       → Keys (v .1 .trees) → Low n (v .1 .trees) → length ls + length (sorted (v .1 .trees)) ≤ 65535
-      → RenamedIs (onFree m ls (cut a u)) (renamed s ws out at n (length ls) to)
+      → RenamedIs (onFree m ls (cut a u)) (renamed s ws out at p n (length ls) to)
   unfolding cut onFree
   renamed-is true b u v ea eb keys below fewer =
-      rw renamed-as (step-deep (λ q. renamed-links s (frees .ws) (frees .out) n (length ls) q) (rw ea at frees-out))
+      rw renamed-as (step-deep (λ q. renamed-links s (frees .ws) (frees .out) p n (length ls) q) (rw ea at frees-out))
   renamed-is false b u v ea eb keys below fewer =
       let o = rw ea at frees-out in
       let w = o .0 in
       let q = on (on to 8) (length (writeTrees (u .0))) in
       let lq = on-most (on to 8) (on-most to low 8) (length (writeTrees (u .0))) in
-      let x = renamed-links s (frees .ws) (frees .out) n (length ls) q in
-      let g = links-are s n (k .few) (frees .ws) (frees .out) q lq ls (u .1) b v (kept-frame s n (k .few) ws (frees .ws) 0 ls (w .frame) kept) (w .meant) eb keys below fewer in
-      rw (renamed-as, step-on (λ j. renamed-links s (frees .ws) (frees .out) n (length ls) j) free-end q (w .is), eb) (links-whole u b v x (o .1) w g)
+      let x = renamed-links s (frees .ws) (frees .out) p n (length ls) q in
+      let g = links-are s n (k .few) (frees .ws) (frees .out) q lq ls p (u .1) b v (kept-frame s n (k .few) ws (frees .ws) 0 ls (w .frame) kept) (w .meant) eb keys below fewer (nothing-above q) in
+      rw (renamed-as, step-on (λ j. renamed-links s (frees .ws) (frees .out) p n (length ls) j) free-end q (w .is), eb) (links-whole u b v x (o .1) w g)

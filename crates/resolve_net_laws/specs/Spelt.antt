@@ -10,7 +10,8 @@ use Rattle.net_file.specs.Lists.{bit, concatMap}
 use Rattle.net_file.specs.Values.{Tree, wire, node, Trees, more, listed, trees, TreeNet}
 use Rattle.net_file.specs.Values
 use Rattle.net_file.specs.Write.{be, counted, writeHead, writeTree, writeTrees, writeLink, writeTreeNet}
-use Rattle.net_file_laws.specs.Bytes.{length-be}
+use Rattle.net_file_laws.specs.Bytes.{Bytes, length-be}
+use Rattle.wire_tables_laws.specs.Table.{Empty}
 use Rattle.net_file_laws.specs.Exact.{Each, exact-number}
 use Rattle.net_file_laws.specs.Trees.{listed-trees, trees-written, TreeFits, LinkFits, TreeNetFits}
 use Rattle.net_file_laws.specs.Depth.{depth, deepest, InRange, InRanges, fits-depth}
@@ -225,12 +226,12 @@ links-long s n few (l ∷ ls) =
     omega (arith, length-append (x ++ y) (concatMap writeLink ls), length-append x y, links-long s n few ls)
 
 module _ (s : List ℕ) (paths names : ℕ) (hp : paths ≤ 65536) (hn : names ≤ 65536) (m : TreeNet) (fits : TreeNetFits paths names m) (at : ℕ) (r : List ℕ)
-    (spelt : Spelt s at (writeTreeNet m) r) (small : length s ≤ 4294967299) (ws : List ℕ) (room : 262144 ≤ length ws) where
+    (spelt : Spelt s at (writeTreeNet m) r) (small : length s ≤ 4294967299) (ws : List ℕ) (room : 262144 ≤ length ws) (b : Bytes s) (empty : Empty ws) where
   abbrev lies : NetLies s m at (at + length (upto m))
   lies = spelt-net s paths names hp hn m fits at r spelt
 
   -- it ends where its bytes do
-  pub net-end : end s m at (at + length (upto m)) lies small ws room ≡ at + length (writeTreeNet m)
+  pub net-end : end s m at (at + length (upto m)) lies small ws room b empty ≡ at + length (writeTreeNet m)
   unfolding writeTreeNet counted
   net-end =
       let hd = writeHead (m .name) (m .included) (m .wires) in
@@ -250,7 +251,7 @@ module _ (s : List ℕ) (paths names : ℕ) (hp : paths ≤ 65536) (hn : names �
         length-be 2 (length (m .links)),
       )
 
-  pub net-is : (out : List ℕ) (to : ℕ) (low : to ≤ most) → NetOut s m at (at + length (upto m)) lies small ws room out to low (resolveTree m) (net s ws out at to)
+  pub net-is : (out : List ℕ) (to : ℕ) (low : to ≤ most) → NetOut s m at (at + length (upto m)) lies small ws room b empty out to low (resolveTree m) (net s ws out at to)
   net-is out to low =
-      rw (resolve-is m (frees-shallow paths names (m .wires) (m .free) (fits .free)) (links-fit paths names (m .wires) (m .links) (fits .links)) (left-nodes s m at (at + length (upto m)) lies small ws room))
-      (net-resolves s m at (at + length (upto m)) lies small ws room out to low)
+      rw (resolve-is m (frees-shallow paths names (m .wires) (m .free) (fits .free)) (links-fit paths names (m .wires) (m .links) (fits .links)) (left-nodes s m at (at + length (upto m)) lies small ws room b empty))
+      (net-resolves s m at (at + length (upto m)) lies small ws room b empty out to low)

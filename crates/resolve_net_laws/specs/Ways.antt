@@ -22,7 +22,10 @@ use Rattle.resolve_walk.specs.Penned.{Penned, Inked}
 use Rattle.resolve_walk.specs.Walk.{on, span, on-step}
 use Rattle.resolve_walk.specs.Walk as code
 use Rattle.resolve_net.specs.Plain.{copy-links, plain}
-use Rattle.resolve_net.specs.Renamed.{visit-links, circles, end-links, renamed-links, renamed}
+use Rattle.words.specs.Choose.{lt-split}
+use Rattle.wire_tables.specs.Tables.{hung}
+use Rattle.resolve_net.specs.declared.Listed.{Listed}
+use Rattle.resolve_net.specs.Renamed.{visit-links, circles, left-below, end-links, renamed-links, renamed}
 use Rattle.resolve_laws.specs.Walk.{walkAll, walk}
 use Rattle.resolve_laws.specs.Keys.{Keys}
 use Rattle.resolve_laws.specs.Kept.{Low}
@@ -35,7 +38,7 @@ use Rattle.resolve_walk_laws.specs.Trees.{Wrote, wrote-then, Outcomes, trees-wa
 use Rattle.resolve_pass_laws.specs.Keeping.{KeptFrom}
 use Rattle.resolve_net_laws.specs.Copied.{Holds, between-is, Put, put-then, copies}
 use Rattle.resolve_net_laws.specs.Visited.{kept-frame, LinksOut, links-visit}
-use Rattle.resolve_net_laws.specs.Circles.{bytesOf, Lists, circles-list}
+use Rattle.resolve_net_laws.specs.Circles.{bytesOf, Lists, circles-less, circles-list}
 use Rattle.resolve_net_laws.specs.Lies.{front, upto, NetLies, net-bytes}
 
 -- ---- as it stands
@@ -110,14 +113,26 @@ module _ (s : List ℕ) (n : ℕ) (few : n ≤ 65536) where
   map-length [] = refl
   map-length (e ∷ es) = ap suc (map-length es)
 
+  left-most : (ws : List ℕ) (links : ℕ) → left-below s ws links n ≤ n
+  unfolding left-below
+  left-most ws links =
+      lt-split _ _ _ _ (λ (x : ℕ). x ≤ n) (λ h. omega arith) (λ h. lt-split _ _ _ _ (λ (x : ℕ). x ≤ n) (λ i. omega arith) (λ i. omega arith))
+
   -- where the links have been visited: the circles behind them, and the count before
   module _ (ws out : List ℕ) (to : ℕ) (low : to ≤ most) (q : List (Tree × Tree) × Hung) (r : Penned Stepped) (w : Wrote s n ws out 0 (on to 2) (concatMap writeLink (q .0)) (q .1) r)
-      (keys : Keys (q .1 .trees)) (below : Low n (q .1 .trees)) (fewer : length (q .0) + length (sorted (q .1 .trees)) ≤ 65535) where
+      (keys : Keys (q .1 .trees)) (below : Low n (q .1 .trees)) (fewer : length (q .0) + length (sorted (q .1 .trees)) ≤ 65535) (links : ℕ)
+      (nothing : (v : ℕ) → v < n → left-below s (r .ws) links n ≤ v → hung (r .ws) v ≡ 0) where
     abbrev pub place : ℕ
     place = on (on to 2) (length (concatMap writeLink (q .0)))
 
     abbrev pub ended : Inked ℕ
-    ended = end-links s (r .ws) (r .out) n (length (q .0)) to place
+    ended = end-links s (r .ws) (r .out) links n (length (q .0)) to place
+
+    -- the wires above those on which trees are left
+    all-circles : (c : Listed) → circles s (r .ws) (left-below s (r .ws) links n) (r .out) 0 c ≡ circles s (r .ws) n (r .out) 0 c
+    all-circles c =
+        let l = left-most (r .ws) links in
+        circles-less s n (r .ws) (q .1 .trees) few (w .meant .trees) (left-below s (r .ws) links n) n (r .out) 0 c l (omega arith) (λ v h i. nothing v (omega arith) (omega arith))
 
     listed-circles : Lists (r .out) (record { count = 0; to = place }) (sorted (q .1 .trees)) (circles s (r .ws) n (r .out) 0 (record { count = 0; to = place }))
     listed-circles =
@@ -138,7 +153,7 @@ module _ (s : List ℕ) (n : ℕ) (few : n ≤ 65536) where
         let lb : length (linkBytes q) ≡ 2 + (length xs + length ys) = length-append (be 2 (length (allLinks q))) (concatMap writeLink (allLinks q)) ∙ rw (b₂, body, length-append xs ys) in
         let num : (length (q .0) + circles s (r .ws) n (r .out) 0 (record { count = 0; to = place }) .is .count) % 4294967296 % 65536 ≡ length (allLinks q) = omega arith in
         record {
-          is = c .is ∙ on-on (on to 2) t₂ (length xs) (length ys) ∙ on-on to low 2 (length xs + length ys) ∙ ap (on to) (sym lb);
+          is = ap (λ (x : Inked Listed). x .is .to) (all-circles (record { count = 0; to = place })) ∙ c .is ∙ on-on (on to 2) t₂ (length xs) (length ys) ∙ on-on to low 2 (length xs + length ys) ∙ ap (on to) (sym lb);
           stored = λ room small.
               let o₂ : on to 2 ≡ to + 2 = on-fits to low 2 (length out) (omega arith) small in
               let e₁ : r .out ≡ store (on to 2) xs out = w .stored (omega arith) small in
@@ -150,5 +165,5 @@ module _ (s : List ℕ) (n : ℕ) (few : n ≤ 65536) where
               let at₂ : to + length (be 2 (length (allLinks q))) ≡ on to 2 = omega arith in
               let e₄ : store to (be 2 (length (allLinks q))) (store (on to 2) (xs ++ ys) out) ≡ store to (be 2 (length (allLinks q)) ++ (xs ++ ys)) out =
               rw at₂ at (store-front out to (be 2 (length (allLinks q))) (xs ++ ys) (omega arith)) in
-              rw (num, e₂, pl, e₁, e₃, e₄, body);
+              rw (all-circles (record { count = 0; to = place }), num, e₂, pl, e₁, e₃, e₄, body);
         }

@@ -25,7 +25,10 @@ use Rattle.resolve_net.specs.Net.{net}
 use Rattle.resolve_nets.specs.Nets.{nets}
 use Rattle.resolve_walk_laws.specs.Places.{most, on-most, on-none, on-fits, on-on, store-append, store-length}
 use Rattle.spelt_trees.specs.Spelt.{Spelt, spelt-next}
+use Rattle.wire_tables_laws.specs.Table.{Empty}
 use Rattle.resolve_net_laws.specs.Lies.{upto}
+use Rattle.resolve_net_laws.specs.Only.{trees-keep}
+use Rattle.resolve_net_laws.specs.Touched.{net-frees}
 use Rattle.resolve_net_laws.specs.Net.{end, NetIs, NetOut}
 use Rattle.resolve_net_laws.specs.Spelt.{spelt-net, net-end, net-is}
 
@@ -80,23 +83,23 @@ nets-end : (s ws out : List ℕ) (at to : ℕ) → trees (net s) 0 ws out at to 
 unfolding trees
 nets-end s ws out at to = refl
 
-module _ (s : List ℕ) (paths names : ℕ) (hp : paths ≤ 65536) (hn : names ≤ 65536) (small : length s ≤ 4294967299) where
-  one-net : (m : TreeNet) → TreeNetFits paths names m → (at : ℕ) (r : List ℕ) → Spelt s at (writeTreeNet m) r → (ws : List ℕ) → 262144 ≤ length ws → (out : List ℕ) (to : ℕ) → to ≤ most
+module _ (s : List ℕ) (paths names : ℕ) (hp : paths ≤ 65536) (hn : names ≤ 65536) (small : length s ≤ 4294967299) (bytes : Bytes s) where
+  one-net : (m : TreeNet) → TreeNetFits paths names m → (at : ℕ) (r : List ℕ) → Spelt s at (writeTreeNet m) r → (ws : List ℕ) → 262144 ≤ length ws → Empty ws → (out : List ℕ) (to : ℕ) → to ≤ most
       → OneOut ws out (at + length (writeTreeNet m)) to (resolveTree m) (net s ws out at to)
-  one-net m f at r h ws room out to low =
-      go (resolveTree m) (net-is s paths names hp hn m f at r h small ws room out to low)
+  one-net m f at r h ws room empty out to low =
+      go (resolveTree m) (net-is s paths names hp hn m f at r h small ws room bytes empty out to low)
     where
-      go : (o : Result TreeNet) → NetOut s m at (at + length (upto m)) (spelt-net s paths names hp hn m f at r h) small ws room out to low o (net s ws out at to)
+      go : (o : Result TreeNet) → NetOut s m at (at + length (upto m)) (spelt-net s paths names hp hn m f at r h) small ws room bytes empty out to low o (net s ws out at to)
           → OneOut ws out (at + length (writeTreeNet m)) to o (net s ws out at to)
       go (refuse n) g = g
       go (ok y) g = record {
-        is = g .is ∙ ap (λ e. At (record { from = e; to = on to (length (writeTreeNet y)) })) (net-end s paths names hp hn m f at r h small ws room);
+        is = g .is ∙ ap (λ e. At (record { from = e; to = on to (length (writeTreeNet y)) })) (net-end s paths names hp hn m f at r h small ws room bytes empty);
         long = g .long;
         stored = g .stored;
       }
 
   abbrev Resolves : List TreeNet → Type 0
-  Resolves ms = (at : ℕ) (r : List ℕ) → Each (TreeNetFits paths names) ms → Spelt s at (concatMap writeTreeNet ms) r → (ws : List ℕ) → 262144 ≤ length ws → (out : List ℕ) (to : ℕ) → to ≤ most
+  Resolves ms = (at : ℕ) (r : List ℕ) → Each (TreeNetFits paths names) ms → Spelt s at (concatMap writeTreeNet ms) r → (ws : List ℕ) → 262144 ≤ length ws → Empty ws → (out : List ℕ) (to : ℕ) → to ≤ most
       → NetsOut ws out (at + length (concatMap writeTreeNet ms)) to (mapNets resolveTree ms) (trees (net s) (length ms) ws out at to)
 
   rest-out : (ws out : List ℕ) (d e to : ℕ) (y : TreeNet) (x z : Penned Stepped) → to ≤ most → One ws out d to y x → (o : Result (List TreeNet))
@@ -104,38 +107,43 @@ module _ (s : List ℕ) (paths names : ℕ) (hp : paths ≤ 65536) (hn : names �
   rest-out ws out d e to y x z low a (refuse n) g = g
   rest-out ws out d e to y x z low a (ok ys) g = nets-then ws out d e to y ys x z low a g
 
-  first-out : (ms : List TreeNet) → Resolves ms → (ws out : List ℕ) (at d to : ℕ) (r : List ℕ) → Each (TreeNetFits paths names) ms → Spelt s d (concatMap writeTreeNet ms) r → 262144 ≤ length ws → to ≤ most
+  first-out : (ms : List TreeNet) → Resolves ms → (ws out : List ℕ) (at d to : ℕ) (r : List ℕ) → Each (TreeNetFits paths names) ms → Spelt s d (concatMap writeTreeNet ms) r → 262144 ≤ length ws → Empty ws → to ≤ most
       → (o : Result TreeNet) → OneOut ws out d to o (net s ws out at to)
       → NetsOut ws out (d + length (concatMap writeTreeNet ms)) to (o >>= λ y. mapNets resolveTree ms >>= λ ys. ok (y ∷ ys)) (trees (net s) (suc (length ms)) ws out at to)
-  first-out ms ih ws out at d to r f h room low (refuse n) g = first-deep s ws out at to (length ms) g
-  first-out ms ih ws out at d to r f h room low (ok y) g =
+  first-out ms ih ws out at d to r f h room empty low (refuse n) g = first-deep s ws out at to (length ms) g
+  first-out ms ih ws out at d to r f h room empty low (ok y) g =
       let x = net s ws out at to in
       let p = on to (length (writeTreeNet y)) in
       let lg = g .long in
       rw (first-on s ws out at to (length ms) d p (g .is))
       (rest-out ws out d (d + length (concatMap writeTreeNet ms)) to y x (trees (net s) (length ms) (x .ws) (x .out) d p) low g (mapNets resolveTree ms)
-      (ih d r f h (x .ws) (omega arith) (x .out) p (on-most to low (length (writeTreeNet y)))))
+      (ih d r f h (x .ws) (omega arith) (net-frees s bytes at ws out to empty) (x .out) p (on-most to low (length (writeTreeNet y)))))
 
   nets-resolve : (ms : List TreeNet) → Resolves ms
   unfolding mapNets
-  nets-resolve [] at r f h ws room out to low =
+  nets-resolve [] at r f h ws room empty out to low =
       let i : at ≡ at + 0 = omega arith in
       rw (nets-end s ws out at to) (record { is = λ j. At (record { from = i j; to = sym (on-none to low) j }); long = refl; stored = λ fits low′. store-none to out })
-  nets-resolve (m ∷ ms) at r f h ws room out to low =
+  nets-resolve (m ∷ ms) at r f h ws room empty out to low =
       let x = writeTreeNet m in
       let y = concatMap writeTreeNet ms in
       let g : Spelt s at x (y ++ r) = record { inside = h .inside; bytes = h .bytes ∙ append-assoc x y r } in
       let e : at + length x + length y ≡ at + length (x ++ y) = omega (arith, length-append x y) in
-      rw (← e) (first-out ms (nets-resolve ms) ws out at (at + length x) to r (f .1) (spelt-next s at x y r g) room low (resolveTree m) (one-net m (f .0) at (y ++ r) g ws room out to low))
+      rw (← e) (first-out ms (nets-resolve ms) ws out at (at + length x) to r (f .1) (spelt-next s at x y r g) room empty low (resolveTree m) (one-net m (f .0) at (y ++ r) g ws room empty out to low))
 
-  pub nets-are : (ms : List TreeNet) (at : ℕ) (r : List ℕ) → Each (TreeNetFits paths names) ms → Spelt s at (concatMap writeTreeNet ms) r → (ws : List ℕ) → 262144 ≤ length ws
+  pub nets-are : (ms : List TreeNet) (at : ℕ) (r : List ℕ) → Each (TreeNetFits paths names) ms → Spelt s at (concatMap writeTreeNet ms) r → (ws : List ℕ) → 262144 ≤ length ws → Empty ws
       → (out : List ℕ) (to : ℕ) → to ≤ most → NetsOut ws out (at + length (concatMap writeTreeNet ms)) to (mapNets resolveTree ms) (nets s (length ms) ws out at to)
   unfolding nets
-  nets-are ms at r f h ws room out to low = nets-resolve ms at r f h ws room out to low
+  nets-are ms at r f h ws room empty out to low = nets-resolve ms at r f h ws room empty out to low
+
+  -- nothing is left in the tables
+  pub nets-free : (k : ℕ) (ws out : List ℕ) (at to : ℕ) → Empty ws → Empty (nets s k ws out at to .ws)
+  unfolding nets
+  nets-free k ws out at to e = trees-keep Empty (net s) (λ ws out at to e. net-frees s bytes at ws out to e) k ws out at to e
 
   -- the same of nets that are read from a place on
-  pub nets-read : (k : ℕ) (ms : List TreeNet) (at : ℕ) (r : List ℕ) → Bytes s → at ≤ length s → times k (readTreeNet paths names) (drop at s) ≡ some (ms, r) → (ws : List ℕ) → 262144 ≤ length ws
+  pub nets-read : (k : ℕ) (ms : List TreeNet) (at : ℕ) (r : List ℕ) → at ≤ length s → times k (readTreeNet paths names) (drop at s) ≡ some (ms, r) → (ws : List ℕ) → 262144 ≤ length ws → Empty ws
       → (out : List ℕ) (to : ℕ) → to ≤ most → NetsOut ws out (at + length (concatMap writeTreeNet ms)) to (mapNets resolveTree ms) (nets s k ws out at to)
-  nets-read k ms at r b i h ws room out to low =
-      let w = exact-times (exact-tree-net paths names hp hn) k .writes (drop at s) (bytes-drop at s b) ms r h in
-      rw (← w .0 .0) (nets-are ms at r (w .0 .1) (record { inside = i; bytes = w .1 }) ws room out to low)
+  nets-read k ms at r i h ws room empty out to low =
+      let w = exact-times (exact-tree-net paths names hp hn) k .writes (drop at s) (bytes-drop at s bytes) ms r h in
+      rw (← w .0 .0) (nets-are ms at r (w .0 .1) (record { inside = i; bytes = w .1 }) ws room empty out to low)

@@ -2,12 +2,12 @@
 -- they are `wireLinks` and `pass` of the definition is in `resolve_laws`.
 use Prim.Native.Nat.{ℕ, zero, suc, _+_, _-_, _%_}
 use mathlib.Core.List.{List}
-use Rattle.words.specs.Choose.{if-eq}
+use Rattle.words.specs.Choose.{if-eq, if-lt}
 use Rattle.words.specs.Left.{Left}
 use Rattle.fields.specs.Fields.{byte, be16}
 use Rattle.ends.specs.Ends.{on}
 use Rattle.scan_tree.specs.Count.{endFrom}
-use Rattle.wire_tables.specs.Tables.{link, unlink, smaller, hung, hang}
+use Rattle.wire_tables.specs.Tables.{link, unlink, smaller, hung, hang, freed}
 use Rattle.wire_tables.specs.Tables
 use Rattle.resolve_pass.specs.declared.Passed.{Passed}
 
@@ -34,6 +34,30 @@ link-wires ws s a b = if-eq (byte s a) 0 (if-eq (byte s b) 0 (link ws (wire-at s
 unfoldable pub wire-links : List ℕ → List ℕ → ℕ → ℕ → Left ℕ
 wire-links ws s at zero = record { is = at; ws = ws }
 wire-links ws s at (suc k) = let b = tree-end s at in wire-links (link-wires ws s at b) s (tree-end s b) k
+
+-- ---- the wires of links on which trees hang
+
+-- t, or one more than w, where a tree hangs there and w is not below t
+unfoldable pub over : List ℕ → ℕ → ℕ → ℕ
+over ws w t = if-eq (hung ws w) 0 t (if-lt w t t (w + 1))
+
+unfoldable pub hung-tree : List ℕ → List ℕ → ℕ → ℕ → ℕ
+hung-tree ws s at t = if-eq (byte s at) 0 (over ws (wire-at s at) t) t
+
+-- one more than the greatest of k links
+unfoldable pub hung-links : List ℕ → List ℕ → ℕ → ℕ → ℕ → ℕ
+hung-links ws s at zero t = t
+hung-links ws s at (suc k) t = let b = tree-end s at in hung-links ws s (tree-end s b) k (hung-tree ws s b (hung-tree ws s at t))
+
+-- ---- the wires of links, freed
+
+unfoldable pub free-tree : List ℕ → List ℕ → ℕ → List ℕ
+free-tree ws s at = if-eq (byte s at) 0 (freed ws (wire-at s at)) ws
+
+-- those of k links: in the tables nothing is left of them
+unfoldable pub free-links : List ℕ → List ℕ → ℕ → ℕ → List ℕ
+free-links ws s at zero = ws
+free-links ws s at (suc k) = let b = tree-end s at in free-links (free-tree (free-tree ws s at) s b) s (tree-end s b) k
 
 -- ---- the trees that hang
 

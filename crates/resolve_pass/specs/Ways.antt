@@ -1,15 +1,46 @@
 -- What a function of the crate leaves on each way out, and one turn of each loop, in the words of its tests and calls.
 use Prim.Native.Nat.{ℕ, zero, suc, _+_, _-_, _<_, _≤_}
-use mathlib.Core.Path.{_≡_, refl}
+use mathlib.Core.Path.{_≡_, refl, _∙_}
 use mathlib.Core.List.{List}
+use native.Mathlib.Omega.{arith}
+use native.Mathlib.Decide.{decLt}
 use native.Mathlib.Nat.{not-suc-le-zero}
+use lib.ListN.{length}
 use native.Mathlib.Numerals.{sub-one}
-use Rattle.words.specs.Choose.{eq-yes, eq-no}
+use Rattle.words.specs.Choose.{eq-yes, eq-no, lt-yes, lt-no}
 use Rattle.words.specs.Left.{Left, whole}
 use Rattle.fields.specs.Fields.{byte}
-use Rattle.wire_tables.specs.Tables.{link, unlink, smaller, hung, hang}
+use Rattle.ends.specs.Ends.{on}
+use Rattle.scan_tree.specs.declared.Scan.{Scan}
+use Rattle.scan_tree.specs.Scan.{fit, begin, begin-room, fit-most, step-wire}
+use Rattle.scan_tree.specs.Count.{Runs, runs-begin, runs-more, runs-past, runs-end}
+use Rattle.wire_tables.specs.Tables.{link, unlink, smaller, hung, hang, freed}
 use Rattle.resolve_pass.specs.declared.Passed.{Passed}
-use Rattle.resolve_pass.specs.Pass.{wire-at, tree-end, place, link-wires, wire-links, next, less, add-kept, meet, pass-link, pass}
+use Rattle.resolve_pass.specs.Pass.{wire-at, tree-end, place, link-wires, wire-links, over, hung-tree, hung-links, free-tree, free-links, next, less, add-kept, meet, pass-link, pass}
+
+-- a wire ends three bytes on
+module _ (s : List ℕ) (at x : ℕ) (h : at < length s) (ex : x ≡ byte s at) (z : x ≡ 0) where
+  abbrev here : Scan
+  here = record { at = at; left = 1 }
+
+  abbrev past : Scan
+  past = record { at = at + 3; left = 0 }
+
+  none-left : past ≡ begin s (at + 3) (1 - 1)
+  unfolding begin
+  none-left = let m = fit-most s (at + 3) (1 - 1) in let e : 0 ≡ fit s (at + 3) (1 - 1) = omega arith in λ i. record { at = at + 3; left = e i }
+
+  runs : Runs s at 1 past
+  runs =
+      runs-more s at 1 here past (runs-begin s at 1 here (begin-room s at 1 (omega arith) (omega arith))) (omega arith)
+      (step-wire s at 1 x past (λ e. omega arith) h (omega arith) ex z none-left)
+
+  pub wire-end : (e : ℕ) → e ≡ on s at 3 → e ≡ tree-end s at
+  unfolding tree-end
+  wire-end e i = elim (decLt (length s) (at + 3)) [
+    | yes l ↦ let f = runs-past s at 1 past runs (omega arith) l in i ∙ omega arith
+    | no l ↦ let f = runs-end s at 1 past runs (omega arith) (omega arith) in i ∙ omega arith
+  ]
 
 module _ (ws s : List ℕ) (a b x y : ℕ) (ex : x ≡ byte s a) where
   pub link-node : (x ≡ 0 → ⊥) → ws ≡ link-wires ws s a b
@@ -35,6 +66,58 @@ pub wire-links-done : (ws s : List ℕ) (at k : ℕ) (x : Left ℕ) → wire-lin
 unfolding wire-links
 wire-links-done ws s at zero x g h = g
 wire-links-done ws s at (suc k) x g h = absurd (not-suc-le-zero h)
+
+module _ (ws : List ℕ) (w t v : ℕ) (ev : v ≡ hung ws w) where
+  pub over-none : v ≡ 0 → t ≡ over ws w t
+  unfolding over
+  over-none z = rw (← ev) (eq-yes _ _ _ _ z refl)
+
+  pub over-below : (v ≡ 0 → ⊥) → w < t → t ≡ over ws w t
+  unfolding over
+  over-below n h = rw (← ev) (eq-no _ _ _ _ n (lt-yes _ _ _ _ h refl))
+
+  pub over-above : (v ≡ 0 → ⊥) → t ≤ w → w + 1 ≡ over ws w t
+  unfolding over
+  over-above n h = rw (← ev) (eq-no _ _ _ _ n (lt-no _ _ _ _ h refl))
+
+module _ (ws s : List ℕ) (at t x : ℕ) (ex : x ≡ byte s at) where
+  pub hung-node : (x ≡ 0 → ⊥) → t ≡ hung-tree ws s at t
+  unfolding hung-tree
+  hung-node n = rw (← ex) (eq-no _ _ _ _ n refl)
+
+  pub hung-wire : (w r : ℕ) → x ≡ 0 → w ≡ wire-at s at → r ≡ over ws w t → r ≡ hung-tree ws s at t
+  unfolding hung-tree
+  hung-wire w r z ew er = rw (← ex) (eq-yes _ _ _ _ z (rw (← ew) er))
+
+pub hung-more : (ws s : List ℕ) (at b e k t u r x : ℕ) → hung-links ws s at k t ≡ x → 0 < k → b ≡ tree-end s at → u ≡ hung-tree ws s at t → r ≡ hung-tree ws s b u
+    → e ≡ tree-end s b → hung-links ws s e (k - 1) r ≡ x
+unfolding hung-links
+hung-more ws s at b e zero t u r x g h eb eu er ee = absurd (not-suc-le-zero h)
+hung-more ws s at b e (suc k) t u r x g h eb eu er ee = rw (sub-one, ee, er, eu, eb) g
+
+pub hung-done : (ws s : List ℕ) (at k t x : ℕ) → hung-links ws s at k t ≡ x → k ≤ 0 → t ≡ x
+unfolding hung-links
+hung-done ws s at zero t x g h = g
+hung-done ws s at (suc k) t x g h = absurd (not-suc-le-zero h)
+
+pub free-node : (ws s : List ℕ) (at x : ℕ) → x ≡ byte s at → (x ≡ 0 → ⊥) → ws ≡ free-tree ws s at
+unfolding free-tree
+free-node ws s at x ex n = rw (← ex) (eq-no _ _ _ _ n refl)
+
+pub free-wire : (ws s w : List ℕ) (at x u : ℕ) → x ≡ byte s at → x ≡ 0 → u ≡ wire-at s at → w ≡ freed ws u → w ≡ free-tree ws s at
+unfolding free-tree
+free-wire ws s w at x u ex z eu ew = rw (← ex) (eq-yes _ _ _ _ z (rw (ew, eu)))
+
+pub free-more : (ws v w s : List ℕ) (at b e k : ℕ) (x : List ℕ) → free-links ws s at k ≡ x → 0 < k → b ≡ tree-end s at → v ≡ free-tree ws s at → w ≡ free-tree v s b
+    → e ≡ tree-end s b → free-links w s e (k - 1) ≡ x
+unfolding free-links
+free-more ws v w s at b e zero x g h eb ev ew ee = absurd (not-suc-le-zero h)
+free-more ws v w s at b e (suc k) x g h eb ev ew ee = rw (sub-one, ee, ew, ev, eb) g
+
+pub free-done : (ws s : List ℕ) (at k : ℕ) (x : List ℕ) → free-links ws s at k ≡ x → k ≤ 0 → ws ≡ x
+unfolding free-links
+free-done ws s at zero x g h = g
+free-done ws s at (suc k) x g h = absurd (not-suc-le-zero h)
 
 module _ (ws v v₁ : List ℕ) (w at c u : ℕ) (p : Passed) (ec : c ≡ smaller ws w) (ev : v ≡ unlink ws w) (eu : u ≡ hung v c) (e₁ : v₁ ≡ hang v c 0) where
   pub meet-hangs : (v₂ : List ℕ) (n l : ℕ) → u ≡ 0 → n ≡ next at → v₂ ≡ hang v₁ c n → l ≡ next (p .left)

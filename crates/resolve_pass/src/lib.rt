@@ -1,6 +1,6 @@
 // The two passes of `resolve_links` over the links of a stored tree net: the links of two wires, then the trees that hang on wires.
 ghost use mathlib.Core.Path.{_≡_};
-ghost use Rattle.resolve_pass.specs.Pass.{wire-at, tree-end, link-wires, wire-links, place, next, less, add-kept, meet, pass-link, pass};
+ghost use Rattle.resolve_pass.specs.Pass.{wire-at, tree-end, link-wires, wire-links, over, hung-tree, hung-links, free-tree, free-links, place, next, less, add-kept, meet, pass-link, pass};
 
 // How many links are kept, and on how many wires a tree hangs.
 pub struct Passed {
@@ -17,10 +17,15 @@ pub fn wire_at(s: &[u8], at: usize) -> u16
     fields::be16(s, ends::on(s, at, 1))
 }
 
-// The place behind a tree.
+// The place behind a tree; a wire, the usual one, is not scanned.
 pub fn tree_end(s: &[u8], at: usize) -> usize
     ensures { λ r. ⌜ r ≡ tree-end (now (s .entry)) at ⌝ }
 {
+    if at < s.len() {
+        if fields::byte(s, at) == 0 {
+            return ends::on(s, at, 3);
+        }
+    }
     let c = scan_tree::count(s, at, 1);
     c.end
 }
@@ -58,6 +63,73 @@ pub fn wire_links(ws: &mut [u32], s: &[u8], from: usize, n: u32) -> usize
         k -= 1;
     }
     at
+}
+
+// ---- the wires of links on which trees hang
+
+// t, or one more than w, where a tree hangs there and w is not below t.
+fn over(ws: &[u32], w: u16, t: u32) -> u32
+    ensures { λ r. ⌜ r ≡ over (now (ws .entry)) w t ⌝ }
+{
+    let v = wire_tables::hung(ws, w);
+    if v == 0 {
+        return t;
+    }
+    if (w as u32) < t {
+        return t;
+    }
+    w as u32 + 1
+}
+
+fn hung_tree(ws: &[u32], s: &[u8], at: usize, t: u32) -> u32
+    ensures { λ r. ⌜ r ≡ hung-tree (now (ws .entry)) (now (s .entry)) at t ⌝ }
+{
+    if fields::byte(s, at) == 0 {
+        return over(ws, wire_at(s, at), t);
+    }
+    t
+}
+
+// One more than the greatest of n links, or 0.
+pub fn hung_links(ws: &[u32], s: &[u8], from: usize, n: u32) -> u32
+    ensures { λ r. ⌜ r ≡ hung-links (now (ws .entry)) (now (s .entry)) from n 0 ⌝ }
+{
+    let mut at = from;
+    let mut k = n;
+    let mut t: u32 = 0;
+    while 0 < k {
+        let b = tree_end(s, at);
+        let u = hung_tree(ws, s, at, t);
+        t = hung_tree(ws, s, b, u);
+        at = tree_end(s, b);
+        k -= 1;
+    }
+    t
+}
+
+// ---- the wires of links, freed
+
+fn free_tree(ws: &mut [u32], s: &[u8], at: usize)
+    ensures { λ _. ⌜ now (ws .exit) ≡ free-tree (now (ws .entry)) (now (s .entry)) at ⌝ }
+{
+    if fields::byte(s, at) == 0 {
+        wire_tables::free(ws, wire_at(s, at))
+    }
+}
+
+// Those of n links: in the tables nothing is left of them. That costs less than to clear a table of 65,536 wires.
+pub fn free_links(ws: &mut [u32], s: &[u8], from: usize, n: u32)
+    ensures { λ _. ⌜ now (ws .exit) ≡ free-links (now (ws .entry)) (now (s .entry)) from n ⌝ }
+{
+    let mut at = from;
+    let mut k = n;
+    while 0 < k {
+        let b = tree_end(s, at);
+        free_tree(ws, s, at);
+        free_tree(ws, s, b);
+        at = tree_end(s, b);
+        k -= 1;
+    }
 }
 
 // ---- the trees that hang

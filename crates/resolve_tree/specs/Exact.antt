@@ -45,7 +45,9 @@ use Rattle.resolve_walk.specs.Walk.{on}
 use Rattle.resolve_walk.specs.declared.Stepped.the-variants.{Deep}
 use Rattle.spelt_trees.specs.Spelt.{Spelt}
 use Rattle.resolve_nets.specs.Nets.{nets}
-use Rattle.resolve_nets_laws.specs.Nets.{Nets, NetsOut, nets-are}
+use Rattle.low_wires.specs.Zeros.{zeroed-length, zeroed-get}
+use Rattle.wire_tables_laws.specs.Table.{Empty}
+use Rattle.resolve_nets_laws.specs.Nets.{Nets, NetsOut, nets-are, nets-free}
 use Rattle.resolve_tree.specs.Words.{place, first, count, whole, delivered, resolved, deliver-full, deliver-done, resolved-deep, resolved-at}
 
 -- ---- the only number is 17, and as many nets come out as go in
@@ -174,27 +176,45 @@ module _ (s : List ℕ) (b : Bytes s) (x : File TreeNet) (e : read tree s ≡ ok
   abbrev behind : ℕ
   behind = q + 2 + length (concatMap writeTreeNet (x .nets))
 
-  whole-nets : (ws out : List ℕ) (n : ℕ) → scratchWords ≤ length ws → NetsOut ws (begun out n) behind (q + 2) (mapNets resolveTree (x .nets)) (whole s ws out n)
-  whole-nets ws out n room =
+  whole-nets : (ws out : List ℕ) (n : ℕ) → scratchWords ≤ length ws → Empty ws → NetsOut ws (begun out n) behind (q + 2) (mapNets resolveTree (x .nets)) (whole s ws out n)
+  whole-nets ws out n room empty =
       let t = tree-bounds s b x e in
       let p = t .fewPaths in
       let m = t .fewNames in
       let i = within-file in
       let j = small in
       rw (whole-at ws out n)
-      (nets-are s (length (x .paths)) (length (x .names)) (omega arith) (omega arith) small (x .nets) (q + 2) [] (spells .fits .tables .nets) nets-spelt ws room (begun out n) (q + 2) (omega arith))
+      (nets-are s (length (x .paths)) (length (x .names)) (omega arith) (omega arith) small b (x .nets) (q + 2) [] (spells .fits .tables .nets) nets-spelt ws room empty (begun out n) (q + 2) (omega arith))
+
+  -- nothing is left in the tables
+  whole-free : (ws out : List ℕ) (n : ℕ) → Empty ws → Empty (whole s ws out n .ws)
+  whole-free ws out n empty =
+      let t = tree-bounds s b x e in
+      let p = t .fewPaths in
+      let m = t .fewNames in
+      rw (whole-at ws out n) (nets-free s (length (x .paths)) (length (x .names)) (omega arith) (omega arith) small b n₀ ws (begun out n) (q + 2) (q + 2) empty)
 
   -- what the definitions say
   abbrev said : ℕ → Result (List ℕ)
   said room = convert resolveTree x >>= λ y. fitted room (write tree y)
 
   module _ (w : List ℕ) (room : scratchWords ≤ length w) (out : List ℕ) (roomy : length out < far) (ws ws′ : List ℕ) (z : ws′ ≡ zeroed scratchWords ws) where
+    -- the words without what stood in the tables
+    abbrev w₀ : List ℕ
+    w₀ = zeroed 131072 w
+
+    room₀ : scratchWords ≤ length w₀
+    room₀ = rw (zeroed-length 131072 w) room
+
+    empty₀ : Empty w₀
+    empty₀ = let r = room₀ in record { room = omega arith; zeros = zeroed-get 131072 w }
+
     abbrev Done : Type 0
     Done = Given (said (length out)) ws out (resolved s w out .is) ws′ (resolved s w out .out)
 
-    given-17 : mapNets resolveTree (x .nets) ≡ refuse 17 → whole s w (0 ∷ []) 0 .is ≡ Deep → Done
+    given-17 : mapNets resolveTree (x .nets) ≡ refuse 17 → whole s w₀ (0 ∷ []) 0 .is ≡ Deep → Done
     given-17 em h =
-        let r = resolved-deep s w out (whole s w (0 ∷ []) 0 .ws) (whole s w (0 ∷ []) 0 .is) refl refl h in
+        let r = resolved-deep s w w₀ out (whole s w₀ (0 ∷ []) 0 .ws) (whole s w₀ (0 ∷ []) 0 .is) refl refl refl h in
         let a = ap (λ (r : Result (File TreeNet)). r >>= λ y. fitted (length out) (write tree y)) (convert-stops resolveTree x 17 em) in
         given-as (sym a) (ap (λ t. t .is) r) refl (ap (λ t. t .out) r) (given-refused 17 ws ws′ out z)
 
@@ -230,12 +250,12 @@ module _ (s : List ℕ) (b : Bytes s) (x : File TreeNet) (e : read tree s ≡ ok
       unfolding result
       framed-is n = head-framed s 65 n₀ (concatMap writeTreeNet ys) to n
 
-      module _ (g : Nets w (begun (0 ∷ []) 0) behind (q + 2) ys (whole s w (0 ∷ []) 0)) where
+      module _ (g : Nets w₀ (begun (0 ∷ []) 0) behind (q + 2) ys (whole s w₀ (0 ∷ []) 0)) where
         abbrev w₁ : List ℕ
-        w₁ = whole s w (0 ∷ []) 0 .ws
+        w₁ = whole s w₀ (0 ∷ []) 0 .ws
 
         delivers : delivered s w₁ out to ≡ resolved s w out
-        delivers = resolved-at s w out w₁ (whole s w (0 ∷ []) 0 .is) refl refl (record { from = behind; to = to }) _ _ _ (g .is) refl refl refl
+        delivers = resolved-at s w w₀ out w₁ (whole s w₀ (0 ∷ []) 0 .is) refl refl refl (record { from = behind; to = to }) _ _ _ (g .is) refl refl refl
 
         given-15 : length out < to → Done
         given-15 k =
@@ -259,13 +279,16 @@ module _ (s : List ℕ) (b : Bytes s) (x : File TreeNet) (e : read tree s ≡ ok
             let wrote : Wrote result 0 out o (min far (0 + length result)) = record { is = refl; out = c; fits = omega arith } in
             given-as (sym said-is) (ap (λ t. t .is) r) refl (ap (λ t. t .out) r) (given-written result result [] [] ws out to told refl ws′ o (min far (0 + length result)) k roomy z wrote)
 
-        given-ok : ((v : List ℕ) → scratchWords ≤ length v → Nets v (begun out to) behind (q + 2) ys (whole s v out to)) → Done
-        given-ok f = let l = g .long in elim (decLt (length out) to) [ yes k ↦ given-15 k | no k ↦ given-done (omega arith) (f w₁ (omega arith)) ]
+        given-ok : ((v : List ℕ) → scratchWords ≤ length v → Empty v → Nets v (begun out to) behind (q + 2) ys (whole s v out to)) → Done
+        given-ok f =
+            let l = g .long in
+            let r = room₀ in
+            elim (decLt (length out) to) [ yes k ↦ given-15 k | no k ↦ given-done (omega arith) (f w₁ (omega arith) (whole-free w₀ (0 ∷ []) 0 empty₀)) ]
 
     given-by : (o : Result (List TreeNet)) → mapNets resolveTree (x .nets) ≡ o → Right n₀ o
-        → ((v ds : List ℕ) (n : ℕ) → scratchWords ≤ length v → NetsOut v (begun ds n) behind (q + 2) o (whole s v ds n)) → Done
-    given-by (refuse r) em h f = given-17 (em ∙ ap refuse h) (f w (0 ∷ []) 0 room)
-    given-by (ok ys) em h f = given-ok ys em h (f w (0 ∷ []) 0 room) (λ v l. f v out (to ys em h) l)
+        → ((v ds : List ℕ) (n : ℕ) → scratchWords ≤ length v → Empty v → NetsOut v (begun ds n) behind (q + 2) o (whole s v ds n)) → Done
+    given-by (refuse r) em h f = given-17 (em ∙ ap refuse h) (f w₀ (0 ∷ []) 0 room₀ empty₀)
+    given-by (ok ys) em h f = given-ok ys em h (f w₀ (0 ∷ []) 0 room₀ empty₀) (λ v l d. f v out (to ys em h) l d)
 
     pub given-resolved : Done
     given-resolved = given-by (mapNets resolveTree (x .nets)) refl (right (x .nets)) whole-nets

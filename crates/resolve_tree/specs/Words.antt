@@ -43,10 +43,10 @@ module _ (s : List ℕ) where
       let r = whole ws out n in
       if-lt (length out) n (record { is = Refused 15; ws = ws; out = out }) (record { is = Written n; ws = r .ws; out = r .out })
 
-  -- 17, then 15, then the result; its length is that of one written where there is no room
+  -- 17, then 15, then the result; its length is that of one written where there is no room. At first nothing is said in the tables
   unfoldable pub resolved : List ℕ → List ℕ → Penned Converted
   resolved ws out =
-      let m = whole ws (0 ∷ []) 0 in
+      let m = whole (zeroed 131072 ws) (0 ∷ []) 0 in
       on-step (m .is) (λ pen. delivered (m .ws) out (pen .to)) (record { is = Refused 17; ws = m .ws; out = out })
 
   -- ---- the ways out
@@ -66,15 +66,15 @@ module _ (s : List ℕ) where
   unfolding delivered
   deliver-done ws out w o n h ew eo = lt-no _ _ _ _ h (λ i. record { is = Written n; ws = ew i; out = eo i })
 
-  module _ (ws out w : List ℕ) (t : Stepped) (et : t ≡ whole ws (0 ∷ []) 0 .is) (ew : w ≡ whole ws (0 ∷ []) 0 .ws) where
+  module _ (ws u out w : List ℕ) (t : Stepped) (eu : u ≡ zeroed 131072 ws) (et : t ≡ whole u (0 ∷ []) 0 .is) (ew : w ≡ whole u (0 ∷ []) 0 .ws) where
     pub resolved-deep : t ≡ Deep → record { is = Refused 17; ws = w; out = out } ≡ resolved ws out
     unfolding resolved on-step
-    resolved-deep e = rw (← et, ← ew, e)
+    resolved-deep e = rw (← eu, ← et, ← ew, e)
 
     pub resolved-at : (pen : Pen) (v o : List ℕ) (r : Converted) → t ≡ At pen → r ≡ delivered w out (pen .to) .is → v ≡ delivered w out (pen .to) .ws → o ≡ delivered w out (pen .to) .out
         → record { is = r; ws = v; out = o } ≡ resolved ws out
     unfolding resolved on-step
-    resolved-at pen v o r e er ev eo = Penned.whole (delivered w out (pen .to)) er ev eo ∙ rw (← et, ← ew, e)
+    resolved-at pen v o r e er ev eo = Penned.whole (delivered w out (pen .to)) er ev eo ∙ rw (← eu, ← et, ← ew, e)
 
 -- the first n words made 0, whatever was written there
 zeroed-part : (n : ℕ) (w ws : List ℕ) → length w ≡ n → n ≤ length ws → zeroed n (w ++ drop n ws) ≡ zeroed n ws

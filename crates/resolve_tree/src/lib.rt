@@ -36,6 +36,7 @@ fn deliver(s: &[u8], ws: &mut [u32], out: &mut [u8], length: usize) -> Converted
 fn resolved(s: &[u8], ws: &mut [u32], out: &mut [u8]) -> Converted
     ensures { λ r. ⌜ (r ≡ resolved (now (s .entry)) (now (ws .entry)) (now (out .entry)) .is) × (now (ws .exit) ≡ resolved (now (s .entry)) (now (ws .entry)) (now (out .entry)) .ws) × (now (out .exit) ≡ resolved (now (s .entry)) (now (ws .entry)) (now (out .entry)) .out) ⌝ }
 {
+    clear::clear_words(ws, 131072);
     let mut none = [0u8; 1];
     let t = whole(s, ws, &mut none, 0);
     match t {

@@ -21,10 +21,10 @@ use Rattle.rule_laws.specs.Ids.{distinct-two}
 use Rattle.rule_laws.specs.Places.{given-some, zip-rows, one-of-two, Meet, meet, Clean, tidy-clean}
 
 module _ (g : Graph) (w : WellWired g) (a b : ℕ) (m : Meet g a b) (same : arity g a ≡ arity g b) where
-  abbrev joins : Script
+  abbrev pub joins : Script
   joins = record { edits = map (λ i. Join (port a i) (port b i)) (upTo (arity g a)); dead = a ∷ b ∷ [] }
 
-  Ends : Port → Type 0
+  pub Ends : Port → Type 0
   Ends = Or (λ _. ⊥) (Row (port a) (port b) 0 (arity g a))
 
   apart : Apart (port a) (port b) (arity g a)
@@ -34,7 +34,7 @@ module _ (g : Graph) (w : WellWired g) (a b : ℕ) (m : Meet g a b) (same : arit
     pq-apart = λ i j _ _ e. m .differ (ap (λ (p : Port). p .node) e);
   }
 
-  joins-tidy : Tidy g joins Ends
+  pub joins-tidy : Tidy g joins Ends
   unfolding Ends
   joins-tidy = record {
     safe = joins-safe Ends (port a) (port b) (arity g a) apart (arity g a) 0 g (λ _. ⊥) (omega arith) (record {

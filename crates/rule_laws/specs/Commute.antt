@@ -57,40 +57,40 @@ module _ (fresh : ℕ → ℕ) (g : Graph) (w : WellWired g) (f : Fresh g fresh)
   t : Meet g a b
   t = meet g (w .wired) a b met
 
-  abbrev m : ℕ
+  abbrev pub m : ℕ
   m = arity g a - 1
 
-  abbrev c : ℕ
+  abbrev pub c : ℕ
   c = arity g b - 1
 
-  abbrev x : Node
+  abbrev pub x : Node
   x = new (at g a .net) (nameOf g b) (arity g b)
 
-  abbrev y : Node
+  abbrev pub y : Node
   y = new (at g a .net) (nameOf g a) (arity g a)
 
-  abbrev cols : ℕ → ℕ
+  abbrev pub cols : ℕ → ℕ
   cols j = fresh (m + j)
 
-  abbrev P : ℕ → Port
+  abbrev pub P : ℕ → Port
   P i = port a (1 + i)
 
-  abbrev Q : ℕ → Port
+  abbrev pub Q : ℕ → Port
   Q i = port (fresh i) 0
 
-  abbrev Cuts : Port → Type 0
+  abbrev pub Cuts : Port → Type 0
   Cuts = With (λ _. ⊥) (port a 0) (port b 0)
 
-  abbrev Rows : Port → Type 0
+  abbrev pub Rows : Port → Type 0
   Rows = Or Cuts (Row P Q 0 m)
 
-  abbrev Cols : Port → Type 0
+  abbrev pub Cols : Port → Type 0
   Cols = Columns b m c fresh cols 0
 
-  abbrev Ends : Port → Type 0
+  abbrev pub Ends : Port → Type 0
   Ends = Or Rows Cols
 
-  abbrev commuted : Script
+  abbrev pub commuted : Script
   commuted = record {
     edits = Cut (port a 0) (port b 0) ∷ concatMap (hung P fresh x) (upTo m) ++ concatMap (column b m c fresh cols y) (upTo c);
     dead = a ∷ b ∷ [];
@@ -232,7 +232,7 @@ module _ (fresh : ℕ → ℕ) (g : Graph) (w : WellWired g) (f : Fresh g fresh)
           go (inl s) = not-fresh g fresh f a i (t .filled-a) (sym (ap (λ (p : Port). p .node) s))
           go (inr s) = let z : 1 + j ≡ 0 = ap (λ (p : Port). p .index) s in omega arith
 
-  commuted-tidy : Tidy g commuted Ends
+  pub commuted-tidy : Tidy g commuted Ends
   unfolding apply
   commuted-tidy = record {
     safe = (

@@ -27,22 +27,22 @@ module _ (fresh : ℕ → ℕ) (g : Graph) (w : WellWired g) (f : Fresh g fresh)
   m : Meet g e n
   m = meet g (w .wired) e n met
 
-  abbrev c : ℕ
+  abbrev pub c : ℕ
   c = arity g n - 1
 
-  abbrev eraser : Node
+  abbrev pub eraser : Node
   eraser = record { net = at g e .net; name = nameOf g e; ports = none ∷ [] }
 
-  abbrev P : ℕ → Port
+  abbrev pub P : ℕ → Port
   P i = port n (1 + i)
 
-  abbrev Q : ℕ → Port
+  abbrev pub Q : ℕ → Port
   Q i = port (fresh i) 0
 
-  abbrev Cuts : Port → Type 0
+  abbrev pub Cuts : Port → Type 0
   Cuts = With (λ _. ⊥) (port e 0) (port n 0)
 
-  abbrev Ends : Port → Type 0
+  abbrev pub Ends : Port → Type 0
   Ends = Or Cuts (Row P Q 0 c)
 
   apart : Apart P Q c
@@ -55,14 +55,14 @@ module _ (fresh : ℕ → ℕ) (g : Graph) (w : WellWired g) (f : Fresh g fresh)
   later : (i j : ℕ) → i < c → j < 1 → Ends (port (fresh i) j)
   later i j l h = right (record { i = i; low = omega arith; high = l; is = inr (ap (port (fresh i)) (let z : j ≡ 0 = omega arith in z)) })
 
-  abbrev erased : Script
+  abbrev pub erased : Script
   erased = record { edits = Cut (port e 0) (port n 0) ∷ concatMap (hung P fresh eraser) (upTo c); dead = e ∷ n ∷ [] }
 
   -- after the cut
   abbrev g₁ : Graph
   g₁ = cut g (port e 0) (port n 0)
 
-  erased-tidy : Tidy g erased Ends
+  pub erased-tidy : Tidy g erased Ends
   unfolding apply new
   erased-tidy = record {
     safe = (

@@ -112,7 +112,7 @@ module _ (fresh : ℕ → ℕ) (g : Graph) (nils : List ℕ) (a b : ℕ) where
       }
 
   -- the node that aux port k meets makes a pair
-  facing : WellWired g → Paired (arity g a - 1) → (k : ℕ) → k < arity g a - 1 → follow g (port a (1 + k)) .node ≡ b → Facing g a b (arity g a - 1)
+  pub facing : WellWired g → Paired (arity g a - 1) → (k : ℕ) → k < arity g a - 1 → follow g (port a (1 + k)) .node ≡ b → Facing g a b (arity g a - 1)
   facing w t k l m = record {
     size-a = omega arith;
     size-b = let z = t .size in omega arith;

@@ -37,28 +37,28 @@ frame-cuts P Q (x ∷ xs) g n = frame-cuts P Q xs (cut g (P x) (Q x)) n ∙ fram
 -- `more`: a has aux ports; `bare`: each meets a node of one port
 module _ (fresh : ℕ → ℕ) (g : Graph) (w : WellWired g) (f : Fresh g fresh) (a : ℕ) (name : Name) (more : 2 ≤ arity g a)
     (bare : (i : ℕ) → i < arity g a - 1 → arity g (follow g (port a (1 + i)) .node) ≡ 1) where
-  abbrev c : ℕ
+  abbrev pub c : ℕ
   c = arity g a - 1
 
-  abbrev P : ℕ → Port
+  abbrev pub P : ℕ → Port
   P i = port a (1 + i)
 
-  abbrev Q : ℕ → Port
+  abbrev pub Q : ℕ → Port
   Q i = follow g (P i)
 
-  abbrev x : Node
+  abbrev pub x : Node
   x = new (at g a .net) name 1
 
-  abbrev Cuts : Port → Type 0
+  abbrev pub Cuts : Port → Type 0
   Cuts = Or (λ _. ⊥) (Row P Q 0 c)
 
-  abbrev Ends : Port → Type 0
+  abbrev pub Ends : Port → Type 0
   Ends = With Cuts (port a 0) (port (fresh 0) 0)
 
-  abbrev cuts : List Edit
+  abbrev pub cuts : List Edit
   cuts = map (λ i. Cut (P i) (Q i)) (upTo c)
 
-  abbrev reduced : Script
+  abbrev pub reduced : Script
   reduced = record {
     edits = cuts ++ Insert (fresh 0) x ∷ Join (port a 0) (port (fresh 0) 0) ∷ [];
     dead = a ∷ map (λ i. Q i .node) (upTo c);
@@ -144,7 +144,7 @@ module _ (fresh : ℕ → ℕ) (g : Graph) (w : WellWired g) (f : Fresh g fresh)
           go (inl s) = not-fresh g fresh f a 0 filled-a (sym (ap (λ (p : Port). p .node) s))
           go (inr s) = not-fresh g fresh f (Q (r .i) .node) 0 (follow-filled g w (P (r .i)) (real-p (r .i) (r .high))) (sym (ap (λ (p : Port). p .node) s))
 
-  reduced-tidy : Tidy g reduced Ends
+  pub reduced-tidy : Tidy g reduced Ends
   reduced-tidy = record {
     safe = safe-append Ends cuts (Insert (fresh 0) x ∷ Join (port a 0) (port (fresh 0) 0) ∷ []) g (λ _. ⊥) Cuts Ends cuts-fit last-fit;
     gone = λ n d. dead n (List·Memᴰ·cases-cons d);

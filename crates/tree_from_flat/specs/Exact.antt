@@ -58,8 +58,8 @@ module _ (c d : ℕ → ℕ) (e : (w : ℕ) → w < 65536 → c w ≡ d w) where
 abbrev Good : List ℕ → ℕ → Type 0
 Good ws stamp = (65536 ≤ length ws) × Below (suc stamp) ws
 
-good-zeroed : (ws : List ℕ) → scratchWords ≤ length ws → Good (zeroed scratchWords ws) 0
-good-zeroed ws l = (rw zeroed-length (omega arith), λ i h. let z = zeroed-get scratchWords ws i (omega arith) in rw z (omega arith))
+good-zeroed : (ws : List ℕ) → scratchWords ≤ length ws → Good (zeroed 65536 ws) 0
+good-zeroed ws l = (rw zeroed-length (omega arith), λ i h. let z = zeroed-get 65536 ws i (omega arith) in rw z (omega arith))
 
 module _ (s : List ℕ) where
   -- the pairs that are marked are the net's
@@ -103,11 +103,11 @@ module _ (s ws : List ℕ) (b : Bytes s) (l : scratchWords ≤ length ws) (x : F
   unfolding q bodyEnd
   inside = read-inside flat flatNetAt flatNetEnd s (stands-net s) x e
 
-  nets-are : treeNets s (zeroed scratchWords ws) 0 (q + 2) (be16 s q) ≡ trees-of
+  nets-are : treeNets s (zeroed 65536 ws) 0 (q + 2) (be16 s q) ≡ trees-of
   unfolding treeNets trees-of nets netsAt q
   nets-are =
       nets-exact s (markNet s) (λ ws stamp at. netPart ws stamp s at) (flatNetEnd s) (flatNetAt s) (λ n. writeTreeNet (toTree n)) Low Good (net-up s)
-      (kept s) (same s) (zeroed scratchWords ws) 0 (q + 2) (be16 s q) inside each-low (good-zeroed ws l)
+      (kept s) (same s) (zeroed 65536 ws) 0 (q + 2) (be16 s q) inside each-low (good-zeroed ws l)
 
   whole-is : (n : ℕ) → treeWhole s ws n ≡ headBytes s q 65 (be16 s q) n ++ trees-of
   unfolding treeWhole q

@@ -16,7 +16,7 @@ use Rattle.tree_writers.specs.Trees.{netPart}
 use Rattle.convert_frame.specs.declared.Converted.the-variants.{Written, Refused}
 use Rattle.convert_frame.specs.Head.{headBytes}
 use Rattle.convert_frame.specs.Called.{scratchWords, Given, given-full, given-written}
-use Rattle.convert_frame.specs.Nets.{zeroed-set, zeroed-twice, netsWords, netsBytes, words-next, bytes-next, words-done, bytes-done, words-kept}
+use Rattle.convert_frame.specs.Nets.{zeroed-set, zeroed-within, netsWords, netsBytes, words-next, bytes-next, words-done, bytes-done, words-kept}
 
 module _ (s : List ℕ) where
   -- the scratch with the pairs of the net at a place marked
@@ -37,10 +37,10 @@ module _ (s : List ℕ) where
   unfoldable pub treeWhole : List ℕ → ℕ → List ℕ
   treeWhole ws n =
       let q = within s (netCountAt s) in
-      headBytes s q 65 (be16 s q) n ++ treeNets (zeroed scratchWords ws) 0 (on s q 2) (be16 s q)
+      headBytes s q 65 (be16 s q) n ++ treeNets (zeroed 65536 ws) 0 (on s q 2) (be16 s q)
 
   unfoldable pub treeLeft : List ℕ → List ℕ
-  treeLeft ws = let q = within s (netCountAt s) in treeWords (zeroed scratchWords ws) 0 (on s q 2) (be16 s q)
+  treeLeft ws = let q = within s (netCountAt s) in treeWords (zeroed 65536 ws) 0 (on s q 2) (be16 s q)
 
   -- the result: its own length is in its length field
   unfoldable pub treeResult : List ℕ → List ℕ
@@ -82,7 +82,7 @@ module _ (s : List ℕ) where
 
   -- ---- the whole
 
-  module _ (ws w x : List ℕ) (q n a : ℕ) (ew : w ≡ zeroed scratchWords ws) (eq : q ≡ within s (netCountAt s)) (en : n ≡ be16 s q) (ea : a ≡ on s q 2) where
+  module _ (ws w x : List ℕ) (q n a : ℕ) (ew : w ≡ zeroed 65536 ws) (eq : q ≡ within s (netCountAt s)) (en : n ≡ be16 s q) (ea : a ≡ on s q 2) where
     pub whole-left : x ≡ treeWords w 0 a n → x ≡ treeLeft ws
     unfolding treeLeft
     whole-left e = e ∙ rw (ew, ea, en, eq)
@@ -96,37 +96,37 @@ module _ (s : List ℕ) where
   unfolding treeWhole headBytes
   whole-length ws n = simp (length-append, length-be)
 
-  -- marks stay below the documented length
+  -- marks stay in the table
   module _ (b : Bytes s) where
     wire-low : (at : ℕ) → be16 s at < 65536
     wire-low at = omega (arith, b at, b (at + 1))
 
-    zeroed-marked : (stamp at k : ℕ) (ws : List ℕ) → zeroed scratchWords (marked stamp (pairsAt s at k) ws) ≡ zeroed scratchWords ws
+    zeroed-marked : (m : ℕ) → 65536 ≤ m → (stamp at k : ℕ) (ws : List ℕ) → zeroed m (marked stamp (pairsAt s at k) ws) ≡ zeroed m ws
     unfolding marked pairsAt pairAt tableAt
-    zeroed-marked stamp at zero ws = refl
-    zeroed-marked stamp at (suc k) ws =
+    zeroed-marked m wide stamp at zero ws = refl
+    zeroed-marked m wide stamp at (suc k) ws =
         let v = mark stamp (be16 s at) in
-        zeroed-marked stamp (at + 4) k (set ws (be16 s (at + 2)) v) ∙ zeroed-set scratchWords ws (be16 s (at + 2)) v (omega (arith, wire-low (at + 2)))
+        zeroed-marked m wide stamp (at + 4) k (set ws (be16 s (at + 2)) v) ∙ zeroed-set m ws (be16 s (at + 2)) v (omega (arith, wire-low (at + 2)))
 
-    mark-kept : (ws : List ℕ) (stamp at : ℕ) → zeroed scratchWords (markNet ws stamp at) ≡ zeroed scratchWords ws
+    mark-kept : (m : ℕ) → 65536 ≤ m → (ws : List ℕ) (stamp at : ℕ) → zeroed m (markNet ws stamp at) ≡ zeroed m ws
     unfolding markNet
-    mark-kept ws stamp at = zeroed-marked stamp _ _ ws
+    mark-kept m wide ws stamp at = zeroed-marked m wide stamp _ _ ws
 
-    left-kept : (ws : List ℕ) → zeroed scratchWords (treeLeft ws) ≡ zeroed scratchWords ws
+    left-kept : (m : ℕ) → 65536 ≤ m → (ws : List ℕ) → zeroed m (treeLeft ws) ≡ zeroed m ws
     unfolding treeLeft treeWords
-    left-kept ws = words-kept s markNet treeNet (flatNetEnd s) mark-kept (zeroed scratchWords ws) 0 _ _ ∙ zeroed-twice scratchWords ws
+    left-kept m wide ws = words-kept s markNet treeNet (flatNetEnd s) m (mark-kept m wide) (zeroed 65536 ws) 0 _ _ ∙ zeroed-within 65536 m ws wide
 
     -- so a result that is written after another is the same
     whole-again : (ws w : List ℕ) (n : ℕ) → w ≡ treeLeft ws → treeWhole w n ≡ treeWhole ws n
     unfolding treeWhole
-    whole-again ws w n e = let z : zeroed scratchWords w ≡ zeroed scratchWords ws = ap (zeroed scratchWords) e ∙ left-kept ws in rw z
+    whole-again ws w n e = let z : zeroed 65536 w ≡ zeroed 65536 ws = ap (zeroed 65536) e ∙ left-kept 65536 (omega arith) ws in rw z
 
   -- ---- 15, or the result
 
   module _ (ws w x y out v : List ℕ) (n : ℕ) (b : (i : ℕ) → getD s i 0 < 256) where
     pub tree-full : Wrote (treeWhole ws 0) 0 x y n → w ≡ treeLeft ws → length out < n → v ≡ zeroed scratchWords w → Given (fitted (length out) (treeResult ws)) ws out (Refused 15) v out
     unfolding treeResult
-    tree-full m e h z = given-full _ _ x y ws out n m (sym (whole-length ws _)) v h (z ∙ ap (zeroed scratchWords) e ∙ left-kept b ws)
+    tree-full m e h z = given-full _ _ x y ws out n m (sym (whole-length ws _)) v h (z ∙ ap (zeroed scratchWords) e ∙ left-kept b scratchWords (omega arith) ws)
 
     pub tree-written : (o u : List ℕ) (r : ℕ) → Wrote (treeWhole ws 0) 0 x y n → w ≡ treeLeft ws → n ≤ length out → length out < far → Wrote (treeWhole w n) 0 out o r → u ≡ treeLeft w
         → v ≡ zeroed scratchWords u → Given (fitted (length out) (treeResult ws)) ws out (Written n) v o
@@ -134,5 +134,5 @@ module _ (s : List ℕ) where
     tree-written o u r m e h l t f z =
         let k : n ≡ length (treeWhole ws 0) = omega (arith, m .is) in
         let a : treeWhole w n ≡ treeWhole ws (length (treeWhole ws 0)) = whole-again b ws w n e ∙ ap (treeWhole ws) k in
-        let i = z ∙ ap (zeroed scratchWords) f ∙ left-kept b w ∙ ap (zeroed scratchWords) e ∙ left-kept b ws in
+        let i = z ∙ ap (zeroed scratchWords) f ∙ left-kept b scratchWords (omega arith) w ∙ ap (zeroed scratchWords) e ∙ left-kept b scratchWords (omega arith) ws in
         given-written _ _ x y ws out n m (sym (whole-length ws _)) v o r h l i (wrote-as a t)

@@ -1,6 +1,9 @@
 // Check 5 on the parts that both versions share: each function walks over one part of a net file, and answers the place after
 // it, or that a field is out of range or the bytes run out. What is right is what the reader of that part says (`after`).
+ghost use Prim.Native.Nat.{_+_, _<_, _≤_};
 ghost use mathlib.Core.Path.{_≡_};
+ghost use lib.ListN.{length};
+ghost use Rattle.fields.specs.Fields.{be16};
 ghost use Rattle.net_file.specs.Read.{below, times, many, readName};
 ghost use Rattle.walk.specs.After.{after};
 
@@ -8,6 +11,20 @@ ghost use Rattle.walk.specs.After.{after};
 pub enum Walked {
     At(usize),
     Bad,
+}
+
+fn wide(x: u8) -> u16
+    ensures { λ r. ⌜ (r ≡ x) × (r < 256) ⌝ }
+{
+    x as u16
+}
+
+// A number that is there: no byte of it is tested for.
+fn number(s: &[u8], at: usize) -> u16
+    requires { ⌜ at + 2 ≤ length (now s) ⌝ }
+    ensures { λ r. ⌜ r ≡ be16 (now (s .entry)) at ⌝ }
+{
+    256 * wide(s[at]) + wide(s[at + 1])
 }
 
 // n numbers of two bytes, each below a bound.
@@ -23,7 +40,7 @@ pub fn numbers(s: &[u8], from: usize, n: u32, bound: u32) -> Walked
     let mut at = from;
     let mut k = n;
     while 0 < k {
-        let x = fields::be16(s, at);
+        let x = number(s, at);
         if bound <= x as u32 {
             return Walked::Bad;
         }

@@ -10,6 +10,10 @@ use lib.Seq.{sets}
 unfoldable pub on : ℕ → ℕ → ℕ
 on at k = min 18446744073709551615 (at + k)
 
+-- the word behind the table is above each wire that was linked
+unfoldable pub raised : List ℕ → ℕ → List ℕ
+raised ws x = if-lt x (getD ws 65536 0) ws (set ws 65536 (x + 1))
+
 module _ (ws : List ℕ) where
   -- what wire a is linked with, or a itself
   unfoldable pub far : ℕ → ℕ
@@ -17,7 +21,7 @@ module _ (ws : List ℕ) where
 
   -- two wires linked with each other, unless they are one
   unfoldable pub join : ℕ → ℕ → List ℕ
-  join x y = if-eq x y ws (set (set ws x (y + 1)) y (x + 1))
+  join x y = if-eq x y ws (raised (raised (set (set ws x (y + 1)) y (x + 1)) x) y)
 
 -- wires a and b are one: the far ends of what they were linked with become so
 unfoldable pub link : List ℕ → ℕ → ℕ → List ℕ
@@ -54,3 +58,17 @@ module _ (ws : List ℕ) where
   unfoldable pub pairsBytes : ℕ → ℕ → ℕ → List ℕ → List ℕ
   pairsBytes n zero to out = out
   pairsBytes n (suc k) to out = let a = n - suc k in pairsBytes n k (pairPlace to a) (pairBytes out to a)
+
+  -- how far wires are linked, below a counter
+  unfoldable pub extent : ℕ → ℕ
+  extent wires = let t = getD ws 65536 0 in if-lt t wires t wires
+
+  -- the pairs of the wires below a counter: how many, and the place after them, and them written
+  unfoldable pub pairCount : ℕ → ℕ
+  pairCount wires = let e = extent wires in countPairs e e
+
+  unfoldable pub pairsEnd : ℕ → ℕ → ℕ
+  pairsEnd wires to = let e = extent wires in pairsPlace e e to
+
+  unfoldable pub pairsOut : ℕ → ℕ → List ℕ → List ℕ
+  pairsOut wires to out = let e = extent wires in pairsBytes e e to out

@@ -1,7 +1,7 @@
 // `WireLinks` of net.rs as a table by wire in the lent words: 0 where a wire is linked with none, else one more than the wire that it is linked with.
 ghost use mathlib.Core.Path.{_≡_};
 ghost use Prim.Native.Nat.{_≤_};
-ghost use Rattle.wire_links.specs.Table.{on, far, join, link, begins, countPairs, pairPlace, pairBytes, pairsPlace, pairsBytes};
+ghost use Rattle.wire_links.specs.Table.{on, far, raised, join, link, begins, countPairs, pairPlace, pairBytes, pairsPlace, pairsBytes, extent, pairCount, pairsEnd, pairsOut};
 
 // The place k bytes on, up to the greatest number there is.
 pub fn on(at: usize, k: usize) -> usize
@@ -26,6 +26,19 @@ fn far(ws: &[u32], a: u16) -> u16
     ((p - 1) % 65536) as u16
 }
 
+// The word behind the table is above each wire that was linked.
+const TOP: usize = 65536;
+
+fn raise(ws: &mut [u32], x: u16)
+    ensures { λ _. ⌜ now (ws .exit) ≡ raised (now (ws .entry)) x ⌝ }
+{
+    let t = words::get(ws, TOP);
+    if (x as u32) < t {
+        return;
+    }
+    words::put(ws, TOP, x as u32 + 1)
+}
+
 // Two wires linked with each other, unless they are one.
 fn join(ws: &mut [u32], x: u16, y: u16)
     ensures { λ _. ⌜ now (ws .exit) ≡ join (now (ws .entry)) x y ⌝ }
@@ -34,7 +47,9 @@ fn join(ws: &mut [u32], x: u16, y: u16)
         return;
     }
     words::put(ws, x as usize, y as u32 + 1);
-    words::put(ws, y as usize, x as u32 + 1)
+    words::put(ws, y as usize, x as u32 + 1);
+    raise(ws, x);
+    raise(ws, y)
 }
 
 // Wires a and b are one: the far ends of what they were linked with become so.
@@ -60,7 +75,7 @@ fn begins(ws: &[u32], a: u32) -> u32
     0
 }
 
-pub fn count_pairs(ws: &[u32], wires: u32) -> u32
+fn count_below(ws: &[u32], wires: u32) -> u32
     ensures { λ r. ⌜ (r ≡ countPairs (now (ws .entry)) wires wires) × (r ≤ wires) ⌝ }
 {
     let mut left = wires;
@@ -70,6 +85,24 @@ pub fn count_pairs(ws: &[u32], wires: u32) -> u32
         left -= 1;
     }
     n
+}
+
+// How far wires are linked, below a counter: to look at each wire below a counter would take longer than a usual net.
+pub fn extent(ws: &[u32], wires: u32) -> u32
+    ensures { λ r. ⌜ r ≡ extent (now (ws .entry)) wires ⌝ }
+{
+    let t = words::get(ws, TOP);
+    if t < wires {
+        return t;
+    }
+    wires
+}
+
+pub fn count_pairs(ws: &[u32], wires: u32) -> u32
+    ensures { λ r. ⌜ (r ≡ pairCount (now (ws .entry)) wires) × (r ≤ wires) ⌝ }
+{
+    let e = extent(ws, wires);
+    count_below(ws, e)
 }
 
 // The pair that begins at wire a, if one does; the place after it.
@@ -85,8 +118,7 @@ fn put_pair(ws: &[u32], out: &mut [u8], to: usize, a: u32) -> usize
     on(to, 4)
 }
 
-// All of them, from a place on; the place after them.
-pub fn put_pairs(ws: &[u32], out: &mut [u8], at: usize, wires: u32) -> usize
+fn put_below(ws: &[u32], out: &mut [u8], at: usize, wires: u32) -> usize
     ensures { λ r. ⌜ (r ≡ pairsPlace (now (ws .entry)) wires wires at) × (now (out .exit) ≡ pairsBytes (now (ws .entry)) wires wires at (now (out .entry))) ⌝ }
 {
     let mut left = wires;
@@ -96,4 +128,12 @@ pub fn put_pairs(ws: &[u32], out: &mut [u8], at: usize, wires: u32) -> usize
         left -= 1;
     }
     to
+}
+
+// All of them, from a place on; the place after them.
+pub fn put_pairs(ws: &[u32], out: &mut [u8], at: usize, wires: u32) -> usize
+    ensures { λ r. ⌜ (r ≡ pairsEnd (now (ws .entry)) wires at) × (now (out .exit) ≡ pairsOut (now (ws .entry)) wires at (now (out .entry))) ⌝ }
+{
+    let e = extent(ws, wires);
+    put_below(ws, out, at, e)
 }

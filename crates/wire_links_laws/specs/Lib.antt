@@ -1,2 +1,3 @@
 pub mod Means
 pub mod Pairs
+pub mod Top

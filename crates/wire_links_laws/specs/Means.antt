@@ -10,10 +10,10 @@ use lib.ListN.{length, getD, set, length-set}
 use lib.Seq.{getD-set-same, getD-set-other}
 use lib.Dec.{eqb}
 use borrow.Author.Tests.{eq-eqb, ne-eqb}
-use Rattle.words.specs.Choose.{if-eq, eq-yes, eq-no}
+use Rattle.words.specs.Choose.{if-eq, eq-yes, eq-no, lt-split}
 use Rattle.conversions.specs.Links.{Links, get, remove, insert, orElse}
 use Rattle.conversions.specs.Links
-use Rattle.wire_links.specs.Table.{far, join}
+use Rattle.wire_links.specs.Table.{far, raised, join}
 use Rattle.wire_links.specs.Table
 
 -- ---- a table from wires to wires, by what stands beside each
@@ -136,6 +136,13 @@ module _ (ws : List ℕ) (l : Links) (m : Means ws l) (a : ℕ) (h : a < 65536) 
     ];
   }
 
+-- the word behind the table says nothing of a wire
+means-raised : (ws : List ℕ) (l : Links) → Means ws l → (x : ℕ) → Means (raised ws x) l
+unfolding raised
+means-raised ws l m x =
+    lt-split _ _ _ _ (λ (v : List ℕ). Means v l) (λ h. m)
+    (λ h. record { long = rw length-set (m .long); word = λ a k. getD-set-other ws 65536 a (x + 1) 0 (λ e. absurd (omega arith)) ∙ m .word a k; low = m .low })
+
 -- ---- link
 
 means-as : {ws w : List ℕ} {l k : Links} → ws ≡ w → l ≡ k → Means ws l → Means w k
@@ -149,7 +156,7 @@ module _ (ws : List ℕ) (l : Links) (m : Means ws l) (x y : ℕ) (h : x < 65536
   one-wire : x ≡ y → Means (join ws x y) (joined l x y)
   unfolding join joined
   one-wire e =
-      let a : if-eq x y ws (set (set ws x (y + 1)) y (x + 1)) ≡ ws = sym (eq-yes _ _ _ _ e refl) in
+      let a : if-eq x y ws (raised (raised (set (set ws x (y + 1)) y (x + 1)) x) y) ≡ ws = sym (eq-yes _ _ _ _ e refl) in
       let b : (elim (eqb x y) as (λ u. Links) [ true ↦ l | false ↦ insert (insert l x y) y x ]) ≡ l =
       ap (λ (t : Bool). elim t as (λ u. Links) [ true ↦ l | false ↦ insert (insert l x y) y x ]) (eq-eqb x y e) in
       means-as (sym a) (sym b) m
@@ -157,10 +164,11 @@ module _ (ws : List ℕ) (l : Links) (m : Means ws l) (x y : ℕ) (h : x < 65536
   two-wires : (x ≡ y → ⊥) → Means (join ws x y) (joined l x y)
   unfolding join joined
   two-wires e =
-      let a : if-eq x y ws (set (set ws x (y + 1)) y (x + 1)) ≡ set (set ws x (y + 1)) y (x + 1) = sym (eq-no _ _ _ _ e refl) in
+      let v = set (set ws x (y + 1)) y (x + 1) in
+      let a : if-eq x y ws (raised (raised v x) y) ≡ raised (raised v x) y = sym (eq-no _ _ _ _ e refl) in
       let b : (elim (eqb x y) as (λ u. Links) [ true ↦ l | false ↦ insert (insert l x y) y x ]) ≡ insert (insert l x y) y x =
       ap (λ (t : Bool). elim t as (λ u. Links) [ true ↦ l | false ↦ insert (insert l x y) y x ]) (ne-eqb x y e) in
-      means-as (sym a) (sym b) (means-inserted (set ws x (y + 1)) (insert l x y) (means-inserted ws l m x h y k) y k x h)
+      means-as (sym a) (sym b) (means-raised _ _ (means-raised _ _ (means-inserted (set ws x (y + 1)) (insert l x y) (means-inserted ws l m x h y k) y k x h) x) y)
 
   means-joined : Means (join ws x y) (joined l x y)
   means-joined = elim (ℕ-discrete x y) [ yes e ↦ one-wire e | no e ↦ two-wires e ]

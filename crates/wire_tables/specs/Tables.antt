@@ -1,7 +1,7 @@
 -- Tables by wire in words. A word is 0 where there is nothing, else one more than a wire or than the place of a tree.
 -- Words 0 to 65,535: the wire that each wire is linked with; from 65,536 on: the tree that hangs on it; from 131,072 on: the two
 -- trees of each link that is kept. Level Words; what they mean is in `wire_tables_laws`.
-use Prim.Native.Nat.{ℕ, zero, suc, _+_, _*_, _-_, _%_}
+use Prim.Native.Nat.{ℕ, _+_, _*_, _-_, _%_}
 use mathlib.Core.List.{List}
 use lib.ListN.{getD, set}
 use Rattle.words.specs.Choose.{if-eq, if-lt}
@@ -51,13 +51,8 @@ kept-left ws i = getD ws (131072 + 2 * i) 0
 abbrev pub kept-right : List ℕ → ℕ → ℕ
 kept-right ws i = getD ws (131072 + 2 * i + 1) 0
 
--- ---- cleared
+-- ---- freed
 
 -- w is not linked, and nothing hangs on it
 unfoldable pub freed : List ℕ → ℕ → List ℕ
 freed ws w = hang (unlink ws w) w 0
-
--- no wire below n is linked, and nothing hangs on it
-unfoldable pub cleared : List ℕ → ℕ → List ℕ
-cleared ws zero = ws
-cleared ws (suc n) = cleared (freed ws n) n

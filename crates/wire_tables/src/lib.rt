@@ -2,7 +2,7 @@
 // that are kept. A word is 0 where there is nothing, else one more than a wire or than the place of a tree.
 ghost use Prim.Native.Nat.{_<_};
 ghost use mathlib.Core.Path.{_≡_};
-ghost use Rattle.wire_tables.specs.Tables.{far, joined, link, unlink, smaller, hung, hang, keep, kept-left, kept-right, freed, cleared};
+ghost use Rattle.wire_tables.specs.Tables.{far, joined, link, unlink, smaller, hung, hang, keep, kept-left, kept-right, freed};
 
 // The place of the trees that hang, behind the links.
 const HUNG: usize = 65536;
@@ -102,23 +102,12 @@ pub fn kept_right(ws: &[u32], i: u32) -> u32
     words::get(ws, KEPT + 2 * i as usize + 1)
 }
 
-// ---- cleared
+// ---- freed
 
 // w is not linked, and nothing hangs on it.
-fn free(ws: &mut [u32], w: u32)
+pub fn free(ws: &mut [u32], w: u16)
     ensures { λ _. ⌜ now (ws .exit) ≡ freed (now (ws .entry)) w ⌝ }
 {
     words::put(ws, w as usize, 0);
     words::put(ws, HUNG + w as usize, 0)
-}
-
-// No wire below n is linked, and nothing hangs on it.
-pub fn clear(ws: &mut [u32], n: u32)
-    ensures { λ _. ⌜ now (ws .exit) ≡ cleared (now (ws .entry)) n ⌝ }
-{
-    let mut left = n;
-    while 0 < left {
-        left -= 1;
-        free(ws, left);
-    }
 }

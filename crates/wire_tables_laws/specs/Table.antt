@@ -8,7 +8,7 @@ use native.Mathlib.Decide.{ℕ-discrete}
 use lib.ListN.{length, getD, set, length-set}
 use lib.Seq.{getD-set-same, getD-set-other}
 use Rattle.conversions.specs.Links.{get, remove, insert}
-use Rattle.wire_tables.specs.Tables.{freed, cleared}
+use Rattle.wire_tables.specs.Tables.{freed}
 use Rattle.wire_tables_laws.specs.Get.{get-removed, get-kept, get-inserted, get-beside}
 
 module _ {A : Type 0} (For : A → ℕ → Type 0) where
@@ -55,58 +55,28 @@ module _ {A : Type 0} (For : A → ℕ → Type 0) where
         ];
       }
 
--- ---- cleared tables
+-- ---- tables in which nothing is said
 
-length-freed : (ws : List ℕ) (w : ℕ) → length (freed ws w) ≡ length ws
+pub length-freed : (ws : List ℕ) (w : ℕ) → length (freed ws w) ≡ length ws
 unfolding freed
 length-freed ws w = length-set (set ws w 0) (65536 + w) 0 ∙ length-set ws w 0
 
-pub length-cleared : (ws : List ℕ) (n : ℕ) → length (cleared ws n) ≡ length ws
-unfolding cleared
-length-cleared ws zero = refl
-length-cleared ws (suc n) = length-cleared (freed ws n) n ∙ length-freed ws n
-
 -- a 0 is stored
-zero-there : (ws : List ℕ) (i : ℕ) → getD (set ws i 0) i 0 ≡ 0
+pub zero-there : (ws : List ℕ) (i : ℕ) → getD (set ws i 0) i 0 ≡ 0
 zero-there [] i = refl
 zero-there (w ∷ ws) zero = refl
 zero-there (w ∷ ws) (suc i) = zero-there ws i
 
 -- and what is 0 stays so
-zero-stays : (ws : List ℕ) (i j : ℕ) → getD ws i 0 ≡ 0 → getD (set ws j 0) i 0 ≡ 0
+pub zero-stays : (ws : List ℕ) (i j : ℕ) → getD ws i 0 ≡ 0 → getD (set ws j 0) i 0 ≡ 0
 zero-stays ws i j h = elim (ℕ-discrete i j) [ yes e ↦ rw e (zero-there ws j) | no d ↦ getD-set-other ws j i 0 0 d ∙ h ]
 
-cleared-stays : (ws : List ℕ) (n i : ℕ) → getD ws i 0 ≡ 0 → getD (cleared ws n) i 0 ≡ 0
-unfolding cleared freed
-cleared-stays ws zero i h = h
-cleared-stays ws (suc n) i h = cleared-stays (freed ws n) n i (zero-stays (set ws n 0) i (65536 + n) (zero-stays ws i n h))
+-- no wire is linked, and nothing hangs
+pub record Empty (ws : List ℕ) : Type 0 where
+  pub room : 131072 ≤ length ws
+  pub zeros : (i : ℕ) → i < 131072 → getD ws i 0 ≡ 0
 
-cleared-link : (ws : List ℕ) (n w : ℕ) → w < n → getD (cleared ws n) w 0 ≡ 0
-unfolding cleared freed
-cleared-link ws zero w h = absurd (omega arith)
-cleared-link ws (suc n) w h = elim (ℕ-discrete w n) [
-  | yes e ↦ rw e (cleared-stays (freed ws n) n n (zero-stays (set ws n 0) n (65536 + n) (zero-there ws n)))
-  | no d ↦ cleared-link (freed ws n) n w (omega arith)
-]
-
-cleared-hung : (ws : List ℕ) (n w : ℕ) → w < n → getD (cleared ws n) (65536 + w) 0 ≡ 0
-unfolding cleared freed
-cleared-hung ws zero w h = absurd (omega arith)
-cleared-hung ws (suc n) w h = elim (ℕ-discrete w n) [
-  | yes e ↦ rw e (cleared-stays (freed ws n) n (65536 + n) (zero-there (set ws n 0) (65536 + n)))
-  | no d ↦ cleared-hung (freed ws n) n w (omega arith)
-]
-
-module _ {A : Type 0} (For : A → ℕ → Type 0) (ws : List ℕ) (n : ℕ) where
-  -- no wire is linked
-  pub cleared-links : n ≤ length ws → Table For 0 n (cleared ws n) []
+module _ {A : Type 0} (For : A → ℕ → Type 0) (base n : ℕ) (ws : List ℕ) where
+  pub table-empty : base + n ≤ 131072 → Empty ws → Table For base n ws []
   unfolding get
-  cleared-links h = record {
-    room = rw (length-cleared ws n) (omega arith);
-    says = λ w l. let e : 0 + w ≡ w = omega arith in rw e (cleared-link ws n w l);
-  }
-
-  -- and nothing hangs
-  pub cleared-trees : 65536 + n ≤ length ws → Table For 65536 n (cleared ws n) []
-  unfolding get
-  cleared-trees h = record { room = rw (length-cleared ws n) h; says = cleared-hung ws n }
+  table-empty h e = let r = e .room in record { room = omega arith; says = λ w l. e .zeros (base + w) (omega arith) }

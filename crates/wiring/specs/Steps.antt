@@ -48,6 +48,32 @@ pub node-tallied : (s counts c d : List ℕ) (base e k t f : ℕ) → c ≡ tall
     → d ≡ tally c base (run s f k) → d ≡ tally counts base (run s e 1 ++ run s (on s e 3) (byte s (on s e 2)))
 node-tallied s counts c d base e k t f ec et ek ef ed = ed ∙ rw (ec, ef, ek, et) (tally-append counts base (run s e 1) (run s (on s e 3) (byte s (on s e 2))))
 
+-- the principal wire and the count are there
+module _ (s : List ℕ) (e w : ℕ) (l : 3 ≤ length s) (h : e ≤ length s - 3) (ew : w ≡ be16 s e) where
+  there : run s e 1 ++ run s (on s e 3) (byte s (on s e 2)) ≡ w ∷ run s (e + 3) (byte s (e + 2))
+  unfolding numbersAt tableAt
+  there =
+      let a : on s e 3 ≡ e + 3 = omega arith in
+      let b : on s e 2 ≡ e + 2 = omega arith in
+      let r : run s e 1 ≡ be16 s e ∷ [] = run-all s e 1 (omega arith) in
+      rw (r, a, b, ew)
+
+  pub node-there : (counts c d : List ℕ) (base k : ℕ) → c ≡ bump counts base w → k ≡ byte s (e + 2) → d ≡ tally c base (run s (e + 3) k)
+      → d ≡ tally counts base (run s e 1 ++ run s (on s e 3) (byte s (on s e 2)))
+  unfolding tally
+  node-there counts c d base k ec ek ed = rw (there, ed, ec, ek)
+
+  pub there-once : (counts : List ℕ) (base c : ℕ) → c ≡ getD counts w 0 → (c ≡ base + 2 → ⊥)
+      → false ≡ all (twice counts base) (run s e 1 ++ run s (on s e 3) (byte s (on s e 2)))
+  unfolding twice
+  there-once counts base c ec n = rw there (ap (λ t. t && all (twice counts base) (run s (e + 3) (byte s (e + 2)))) (sym (ne-eqb _ _ (λ z. n (ec ∙ z)))))
+
+  pub there-twice : (counts : List ℕ) (base c k : ℕ) (r : Bool) → c ≡ getD counts w 0 → c ≡ base + 2 → k ≡ byte s (e + 2)
+      → r ≡ all (twice counts base) (run s (e + 3) k) → r ≡ all (twice counts base) (run s e 1 ++ run s (on s e 3) (byte s (on s e 2)))
+  unfolding twice
+  there-twice counts base c k r ec y ek er =
+      rw there (er ∙ rw ek (ap (λ t. t && all (twice counts base) (run s (e + 3) (byte s (e + 2)))) (sym (eq-eqb _ _ (sym ec ∙ y)))))
+
 pub nodes-more : (s counts c : List ℕ) (base at e a k : ℕ) (x : List ℕ) → tally counts base (nodesWires s at k) ≡ x → 0 < k → e ≡ within s (nameEnd s at)
     → c ≡ tally counts base (run s e 1 ++ run s (on s e 3) (byte s (on s e 2))) → a ≡ within s (listEnd s (e + 2)) → tally c base (nodesWires s a (k - 1)) ≡ x
 unfolding nodesWires nodeWires

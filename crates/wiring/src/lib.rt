@@ -1,14 +1,30 @@
 // Check 7 on flat nets: all wires of a net are tallied, those of its pairs too; then the two of a pair occur alike, and every
 // wire in a free or node place was seen twice: a wire in a pair once there and once in its pair, any other twice.
+ghost use Prim.Native.Nat.{_+_, _<_, _≤_};
 ghost use mathlib.Core.Path.{_≡_};
 ghost use mathlib.Core.List.{_++_};
-ghost use Rattle.fields.specs.Fields.{byte};
+ghost use lib.ListN.{length};
+ghost use Rattle.fields.specs.Fields.{byte, be16};
 ghost use Rattle.ends.specs.Ends.{on};
 ghost use Rattle.net_file.specs.Lists.{all};
 ghost use Rattle.tally.specs.Tally.{tally};
 ghost use Rattle.ends.specs.Runs.{run};
 ghost use Rattle.wiring.specs.Wiring.{pairRun, nodesWires, freeWires, pairedWires, netPairs, netNodes, twice, alike, netTallied, netWired};
 ghost use Rattle.wiring.specs.Fits.{fits};
+
+fn wide(x: u8) -> u16
+    ensures { λ r. ⌜ (r ≡ x) × (r < 256) ⌝ }
+{
+    x as u16
+}
+
+// A wire that is there: no byte of it is tested for.
+fn wire(s: &[u8], at: usize) -> u16
+    requires { ⌜ at + 2 ≤ length (now s) ⌝ }
+    ensures { λ r. ⌜ r ≡ be16 (now (s .entry)) at ⌝ }
+{
+    256 * wide(s[at]) + wide(s[at + 1])
+}
 
 // n wires that stand one after another, where all are there.
 pub fn tally_run(counts: &mut [u32], base: u16, s: &[u8], from: usize, n: u32)
@@ -23,7 +39,7 @@ pub fn tally_run(counts: &mut [u32], base: u16, s: &[u8], from: usize, n: u32)
     let mut at = from;
     let mut k = n;
     while 0 < k {
-        let w = fields::be16(s, at);
+        let w = wire(s, at);
         tally::bump(counts, base, w);
         at += 2;
         k -= 1;
@@ -31,13 +47,28 @@ pub fn tally_run(counts: &mut [u32], base: u16, s: &[u8], from: usize, n: u32)
 }
 
 // A node's wires, where its name ends: the principal one, then the others.
-fn tally_node(counts: &mut [u32], base: u16, s: &[u8], e: usize)
+fn tally_both(counts: &mut [u32], base: u16, s: &[u8], e: usize)
     ensures { λ _. ⌜ now (counts .exit) ≡ tally (now (counts .entry)) base (run (now (s .entry)) e 1 ++ run (now (s .entry)) (on (now (s .entry)) e 3) (byte (now (s .entry)) (on (now (s .entry)) e 2))) ⌝ }
 {
     tally_run(counts, base, s, e, 1);
     let k = fields::byte(s, ends::on(s, e, 2));
     let from = ends::on(s, e, 3);
     tally_run(counts, base, s, from, k as u32)
+}
+
+// The same; mostly the principal wire and the count are there.
+fn tally_node(counts: &mut [u32], base: u16, s: &[u8], e: usize)
+    ensures { λ _. ⌜ now (counts .exit) ≡ tally (now (counts .entry)) base (run (now (s .entry)) e 1 ++ run (now (s .entry)) (on (now (s .entry)) e 3) (byte (now (s .entry)) (on (now (s .entry)) e 2))) ⌝ }
+{
+    if s.len() < 3 {
+        return tally_both(counts, base, s, e);
+    }
+    if s.len() - 3 < e {
+        return tally_both(counts, base, s, e);
+    }
+    tally::bump(counts, base, wire(s, e));
+    let k = wide(s[e + 2]);
+    tally_run(counts, base, s, e + 3, k as u32)
 }
 
 pub fn tally_nodes(counts: &mut [u32], base: u16, s: &[u8], from: usize, n: u32)
@@ -101,7 +132,7 @@ pub fn twice_run(counts: &[u32], base: u16, s: &[u8], from: usize, n: u32) -> bo
     let mut at = from;
     let mut k = n;
     while 0 < k {
-        let w = fields::be16(s, at);
+        let w = wire(s, at);
         let c = words::get(counts, w as usize);
         if c != base as u32 + 2 {
             return false;
@@ -113,7 +144,7 @@ pub fn twice_run(counts: &[u32], base: u16, s: &[u8], from: usize, n: u32) -> bo
 }
 
 // Whether those of the node were whose name ends here.
-fn twice_node(counts: &[u32], base: u16, s: &[u8], e: usize) -> bool
+fn twice_both(counts: &[u32], base: u16, s: &[u8], e: usize) -> bool
     ensures { λ r. ⌜ r ≡ all (twice (now (counts .entry)) base) (run (now (s .entry)) e 1 ++ run (now (s .entry)) (on (now (s .entry)) e 3) (byte (now (s .entry)) (on (now (s .entry)) e 2))) ⌝ }
 {
     if twice_run(counts, base, s, e, 1) {
@@ -122,6 +153,24 @@ fn twice_node(counts: &[u32], base: u16, s: &[u8], e: usize) -> bool
         return twice_run(counts, base, s, from, k as u32);
     }
     false
+}
+
+// The same; mostly the principal wire and the count are there.
+fn twice_node(counts: &[u32], base: u16, s: &[u8], e: usize) -> bool
+    ensures { λ r. ⌜ r ≡ all (twice (now (counts .entry)) base) (run (now (s .entry)) e 1 ++ run (now (s .entry)) (on (now (s .entry)) e 3) (byte (now (s .entry)) (on (now (s .entry)) e 2))) ⌝ }
+{
+    if s.len() < 3 {
+        return twice_both(counts, base, s, e);
+    }
+    if s.len() - 3 < e {
+        return twice_both(counts, base, s, e);
+    }
+    let c = words::get(counts, wire(s, e) as usize);
+    if c != base as u32 + 2 {
+        return false;
+    }
+    let k = wide(s[e + 2]);
+    twice_run(counts, base, s, e + 3, k as u32)
 }
 
 pub fn twice_nodes(counts: &[u32], base: u16, s: &[u8], from: usize, n: u32) -> bool

@@ -4,13 +4,8 @@ use Rattle.flat_nets.proofs.measure_net.Statement.{statement}
 use Rattle.flat_nets.proofs.measure_net.Tie as tie
 use Rattle.flat_nets.proofs.measure_net.Reads as reads
 use Rattle.flat_nets.proofs.measure_net.Lts as lts
-use Rattle.clear.proofs.clear_words.Reads as clear-words-reads
 use Rattle.embed_nets.proofs.embed_net.Reads as embed-net-reads
 use Rattle.wire_links.proofs.count_pairs.Reads as count-pairs-reads
-
--- src/lib.rt:26:5
-clear-words-requires : tie.Need-clear-words-requires
-clear-words-requires c κs = search needs
 
 -- src/lib.rt:27:42
 slice-aggregate-embed-net : tie.Need-slice-aggregate-embed-net
@@ -37,7 +32,6 @@ pub measure-net-spec : {M : Type 1} → statement M
 measure-net-spec =
     tie.close
     (tie.spec
-    clear-words-requires
     slice-aggregate-embed-net
     embed-net-requires
     count-pairs-requires

@@ -2,8 +2,8 @@ use native.Mathlib.Omega.{arith}
 use borrow.Author.Needs.{needs}
 use mathlib.Core.Path.{_≡_}
 use lib.ListN.{length}
-use Rattle.flat_nets.specs.Flat.{summedAll, linkedAll}
-use Rattle.flat_nets.specs.Ways.{summed-more, summed-done, linked-more, linked-done}
+use Rattle.flat_nets.specs.Flat.{summedAll, passedAll}
+use Rattle.flat_nets.specs.Ways.{summed-more, summed-done, passed-more, passed-done}
 use Rattle.flat_nets.proofs.measure_nets.Statement.{statement}
 use Rattle.flat_nets.proofs.measure_nets.Tie as tie
 use Rattle.flat_nets.proofs.measure_nets.Reads as reads
@@ -11,7 +11,7 @@ use Rattle.flat_nets.proofs.measure_nets.Lts as lts
 use Rattle.flat_nets.proofs.sum.Reads as sum-reads
 
 abbrev Inv-loop : tie.InvT-loop
-Inv-loop s ws₀ from n to t₀ left₀ ws t left = (summedAll s ws t left ≡ summedAll s ws₀ (record { at = from; wires = 0; to = to }) n) × (linkedAll s ws t left ≡ linkedAll s ws₀ (record { at = from; wires = 0; to = to }) n) × (length ws ≡ length ws₀)
+Inv-loop s ws₀ from n to t₀ left₀ ws t left = (summedAll s ws t left ≡ summedAll s ws₀ (record { at = from; wires = 0; to = to }) n) × (passedAll s ws t left ≡ passedAll s ws₀ (record { at = from; wires = 0; to = to }) n) × (length ws ≡ length ws₀)
 
 abbrev μ-loop : tie.MeasureT-loop
 μ-loop s ws₀ from n to t₀ left₀ ws t left = left
@@ -34,7 +34,7 @@ loop-less c = omega arith
 
 -- src/lib.rt:84:5
 loop-again : tie.Need-loop-again Inv-loop μ-loop
-loop-again c = (search summed-more, search linked-more, omega arith)
+loop-again c = (search summed-more, search passed-more, omega arith)
 
 -- src/lib.rt:75:1
 same-length : tie.Need-same-length Inv-loop μ-loop
@@ -42,7 +42,7 @@ same-length c = omega arith
 
 -- src/lib.rt:75:1
 returns : tie.Need-returns Inv-loop μ-loop
-returns c = (search summed-done, search linked-done)
+returns c = (search summed-done, search passed-done)
 
 pub measure-nets-spec : {M : Type 1} → statement M
 measure-nets-spec =

@@ -5,6 +5,7 @@ use Rattle.flat_nets.proofs.write_net.Tie as tie
 use Rattle.flat_nets.proofs.write_net.Reads as reads
 use Rattle.flat_nets.proofs.write_net.Lts as lts
 use Rattle.embed_nets.proofs.embed_net.Reads as embed-net-reads
+use Rattle.flat_nets.proofs.empty.Reads as empty-reads
 use Rattle.flat_nets.proofs.measure_net.Reads as measure-net-reads
 use Rattle.flat_nets.proofs.write_before.Reads as write-before-reads
 use Rattle.wire_links.proofs.on.Reads as on-reads
@@ -24,6 +25,10 @@ on-requires c κs = search needs
 -- src/lib.rt:141:9
 embed-net-requires : tie.Need-embed-net-requires
 embed-net-requires c κs = search needs
+
+-- src/lib.rt:155:5
+empty-requires : tie.Need-empty-requires
+empty-requires c κs = search needs
 
 -- src/lib.rt:135:1
 same-length : tie.Need-same-length
@@ -46,6 +51,7 @@ write-net-spec =
     write-before-requires
     on-requires
     embed-net-requires
+    empty-requires
     same-length
     same-length-2
     returns)

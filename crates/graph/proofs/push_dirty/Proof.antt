@@ -1,4 +1,4 @@
-use Rattle.graph.specs.Graph.{push-dirty}
+use Rattle.graph.specs.Ways.{push-full, push-room}
 use borrow.Author.Needs.{needs}
 use Rattle.graph.proofs.push_dirty.Statement.{statement}
 use Rattle.graph.proofs.push_dirty.Tie as tie
@@ -26,30 +26,45 @@ dirty-at-requires c κs = search needs
 put-requires : tie.Need-put-requires
 put-requires c κs = search needs
 
--- src/lib.rt:27:44
+-- src/lib.rt:28:48
 grown-requires : tie.Need-grown-requires
 grown-requires c κs = search needs
 
--- src/lib.rt:27:5
+-- src/lib.rt:28:9
 put-requires-2 : tie.Need-put-requires-2
 put-requires-2 c κs = search needs
 
--- src/lib.rt:28:42
+-- src/lib.rt:29:46
 next-requires : tie.Need-next-requires
 next-requires c κs = search needs
 
--- src/lib.rt:28:5
+-- src/lib.rt:29:9
 put-requires-3 : tie.Need-put-requires-3
 put-requires-3 c κs = search needs
 
--- src/lib.rt:21:1
+-- src/lib.rt:30:9
 same-length : tie.Need-same-length
 same-length c = search needs
 
--- src/lib.rt:21:1
+-- src/lib.rt:30:9
 returns : tie.Need-returns
-unfolding push-dirty
-returns c = cc
+returns c = search push-full
+
+-- src/lib.rt:32:42
+next-requires-2 : tie.Need-next-requires-2
+next-requires-2 c κs = search needs
+
+-- src/lib.rt:32:5
+put-requires-4 : tie.Need-put-requires-4
+put-requires-4 c κs = search needs
+
+-- src/lib.rt:21:1
+same-length-2 : tie.Need-same-length-2
+same-length-2 c = search needs
+
+-- src/lib.rt:21:1
+returns-2 : tie.Need-returns-2
+returns-2 c = search push-room
 
 pub push-dirty-spec : {M : Type 1} → statement M
 push-dirty-spec =
@@ -64,4 +79,8 @@ push-dirty-spec =
     next-requires
     put-requires-3
     same-length
-    returns)
+    returns
+    next-requires-2
+    put-requires-4
+    same-length-2
+    returns-2)

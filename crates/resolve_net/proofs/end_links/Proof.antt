@@ -9,6 +9,10 @@ use Rattle.std.proofs.num.wrapping_add_u32.Reads as wrapping-add-u32-reads
 use Rattle.store.proofs.store16.Reads as store16-reads
 
 -- src/lib.rt:151:9
+left-below-requires : tie.Need-left-below-requires
+left-below-requires c κs = search needs
+
+-- src/lib.rt:151:9
 circles-requires : tie.Need-circles-requires
 circles-requires c κs = search needs
 
@@ -37,6 +41,7 @@ pub end-links-spec : {M : Type 1} → statement M
 end-links-spec =
     tie.close
     (tie.spec
+    left-below-requires
     circles-requires
     wrapping-add-u32-requires
     cast-store16

@@ -5,17 +5,7 @@ use Rattle.resolve_net.proofs.prepare.Tie as tie
 use Rattle.resolve_net.proofs.prepare.Reads as reads
 use Rattle.resolve_net.proofs.prepare.Lts as lts
 use Rattle.resolve_net.proofs.pass_links.Reads as pass-links-reads
-use Rattle.resolve_net.proofs.wires_at.Reads as wires-at-reads
 use Rattle.scan_tree.proofs.links_at.Reads as links-at-reads
-use Rattle.wire_tables.proofs.clear.Reads as clear-reads
-
--- src/lib.rt:221:28
-wires-at-requires : tie.Need-wires-at-requires
-wires-at-requires c κs = search needs
-
--- src/lib.rt:221:5
-clear-requires : tie.Need-clear-requires
-clear-requires c κs = search needs
 
 -- src/lib.rt:222:9
 links-at-requires : tie.Need-links-at-requires
@@ -38,8 +28,6 @@ pub prepare-spec : {M : Type 1} → statement M
 prepare-spec =
     tie.close
     (tie.spec
-    wires-at-requires
-    clear-requires
     links-at-requires
     pass-links-requires
     same-length

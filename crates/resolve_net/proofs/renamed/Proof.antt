@@ -63,7 +63,7 @@ same-length-2 c = search needs
 
 -- src/lib.rt:163:1
 returns : tie.Need-returns
-returns c = penned {x = renamed _ _ _ _ _ _ _} (search renamed-on)
+returns c = penned {x = renamed _ _ _ _ _ _ _ _} (search renamed-on)
 
 -- src/lib.rt:163:1
 same-length-3 : tie.Need-same-length-3
@@ -75,7 +75,7 @@ same-length-4 c = search needs
 
 -- src/lib.rt:163:1
 returns-2 : tie.Need-returns-2
-returns-2 c = penned {x = renamed _ _ _ _ _ _ _} (search renamed-deep)
+returns-2 c = penned {x = renamed _ _ _ _ _ _ _ _} (search renamed-deep)
 
 pub renamed-spec : {M : Type 1} → statement M
 renamed-spec =

@@ -40,7 +40,7 @@ same-length-2 c = search needs
 
 -- src/lib.rt:158:1
 returns : tie.Need-returns
-returns c = penned {x = renamed-links _ _ _ _ _ _} (search links-on)
+returns c = penned {x = renamed-links _ _ _ _ _ _ _} (search links-on)
 
 -- src/lib.rt:158:1
 same-length-3 : tie.Need-same-length-3
@@ -52,7 +52,7 @@ same-length-4 c = search needs
 
 -- src/lib.rt:158:1
 returns-2 : tie.Need-returns-2
-returns-2 c = penned {x = renamed-links _ _ _ _ _ _} (search links-deep)
+returns-2 c = penned {x = renamed-links _ _ _ _ _ _ _} (search links-deep)
 
 pub renamed-links-spec : {M : Type 1} → statement M
 renamed-links-spec =

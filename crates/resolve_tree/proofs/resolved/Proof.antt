@@ -4,6 +4,9 @@ use borrow.Author.Needs.{needs}
 use Rattle.resolve_tree.proofs.resolved.Statement.{statement}
 use Rattle.resolve_tree.proofs.resolved.Tie as tie
 
+clear-words-requires : tie.Need-clear-words-requires
+clear-words-requires c κs = search needs
+
 slice-aggregate-whole : tie.Need-slice-aggregate-whole
 slice-aggregate-whole c = search needs
 
@@ -38,6 +41,7 @@ pub resolved-spec : {M : Type 1} → statement M
 resolved-spec =
     tie.close
     (tie.spec
+    clear-words-requires
     slice-aggregate-whole
     whole-requires
     enum-known-t

@@ -27,8 +27,8 @@ returns-2 c = search numbers-short
 loop-holds : tie.Need-loop-holds Inv-loop μ-loop
 loop-holds c = (search needs, omega arith)
 
-be16-requires : tie.Need-be16-requires Inv-loop μ-loop
-be16-requires c κs = search needs
+number-requires : tie.Need-number-requires Inv-loop μ-loop
+number-requires c κs = search needs
 
 cast-if3 : tie.Need-cast-if3 Inv-loop μ-loop
 cast-if3 c = search needs
@@ -61,7 +61,7 @@ numbers-spec =
     sub-if2
     returns-2
     loop-holds
-    be16-requires
+    number-requires
     cast-if3
     returns-3
     add-at

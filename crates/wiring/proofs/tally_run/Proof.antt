@@ -28,8 +28,8 @@ returns-2 c = search tally-short
 loop-holds : tie.Need-loop-holds Inv-loop μ-loop
 loop-holds c = (search tally-start, search needs, omega arith)
 
-be16-requires : tie.Need-be16-requires Inv-loop μ-loop
-be16-requires c κs = search needs
+wire-requires : tie.Need-wire-requires Inv-loop μ-loop
+wire-requires c κs = search needs
 
 bump-requires : tie.Need-bump-requires Inv-loop μ-loop
 bump-requires c κs = search needs
@@ -62,7 +62,7 @@ tally-run-spec =
     sub-if2
     returns-2
     loop-holds
-    be16-requires
+    wire-requires
     bump-requires
     add-at
     sub-k

@@ -29,8 +29,8 @@ returns-2 c = search twice-short
 loop-holds : tie.Need-loop-holds Inv-loop μ-loop
 loop-holds c = (search twice-start, omega arith)
 
-be16-requires : tie.Need-be16-requires Inv-loop μ-loop
-be16-requires c κs = search needs
+wire-requires : tie.Need-wire-requires Inv-loop μ-loop
+wire-requires c κs = search needs
 
 cast-get : tie.Need-cast-get Inv-loop μ-loop
 cast-get c = search needs
@@ -69,7 +69,7 @@ twice-run-spec =
     sub-if2
     returns-2
     loop-holds
-    be16-requires
+    wire-requires
     cast-get
     get-requires
     add-if3

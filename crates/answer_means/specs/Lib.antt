@@ -1,0 +1,4 @@
+pub mod Hands
+pub mod Take
+pub mod Wake
+pub mod Answer

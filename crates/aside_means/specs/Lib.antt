@@ -1,0 +1,4 @@
+pub mod Hushed
+pub mod Both
+pub mod Aside
+pub mod Steps

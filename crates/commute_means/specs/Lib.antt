@@ -1,0 +1,3 @@
+pub mod Grid
+pub mod Across
+pub mod Commutes

@@ -1,0 +1,4 @@
+pub mod Script
+pub mod Done
+pub mod Waits
+pub mod Grafts

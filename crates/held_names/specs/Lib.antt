@@ -1,0 +1,4 @@
+pub mod Named
+pub mod Same
+pub mod Free
+pub mod Nodes

@@ -1,0 +1,1 @@
+// What the names of the held file mean at level Engine. Laws only, in specs/.

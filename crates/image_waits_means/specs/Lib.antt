@@ -1,0 +1,4 @@
+pub mod Net
+pub mod Nets
+pub mod Pending
+pub mod Waits

@@ -1,0 +1,1 @@
+// The waits and pending numbers of words that mean an engine of a run pass the image's tests. Laws only, in specs/.

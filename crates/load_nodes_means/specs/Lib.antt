@@ -1,0 +1,4 @@
+pub mod Kept
+pub mod Laid
+pub mod Puts
+pub mod Nodes

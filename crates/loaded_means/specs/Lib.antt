@@ -1,0 +1,3 @@
+pub mod Only
+pub mod Places
+pub mod Held

@@ -1,0 +1,1 @@
+// The result is as long as was measured before it is written. Laws only, in specs/.

@@ -1,0 +1,3 @@
+pub mod Kept
+pub mod Links
+pub mod Gone

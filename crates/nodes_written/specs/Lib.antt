@@ -1,0 +1,5 @@
+pub mod Nodes
+pub mod Entries
+pub mod Lists
+pub mod Whole
+pub mod Written

@@ -1,0 +1,4 @@
+pub mod Finished
+pub mod Optimized
+pub mod Room
+pub mod Whole

@@ -1,0 +1,4 @@
+pub mod Layers
+pub mod Net
+pub mod Nets
+pub mod File

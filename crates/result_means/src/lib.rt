@@ -1,0 +1,1 @@
+// The result written on the words is level Engine's result, byte by byte. Laws only, in specs/.

@@ -1,0 +1,1 @@
+// What the sets of rules mean at level Engine. Laws only, in specs/.

@@ -1,0 +1,5 @@
+pub mod Dead
+pub mod Stays
+pub mod Stage
+pub mod Inserts
+pub mod Tries

@@ -1,0 +1,1 @@
+// The node that a visit sees on words that mean an engine at rest. Laws only, in specs/.

@@ -1,0 +1,4 @@
+pub mod Places
+pub mod Append
+pub mod Slots
+pub mod Await

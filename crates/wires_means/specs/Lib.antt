@@ -1,0 +1,4 @@
+pub mod Met
+pub mod Stores
+pub mod Wires
+pub mod Rows
