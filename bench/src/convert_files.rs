@@ -154,6 +154,22 @@ fn hanging_trees(n: usize) -> Vec<u8> {
     file(TREE, vec![tree_net(0, 1 + 2 * n as u32, &free, &linked)])
 }
 
+// ---- wires near the greatest
+
+/// Nets of two links, each of a small wire and of one near the greatest; all four are free wires too.
+fn far_links(n: usize) -> Vec<u8> {
+    let ends = [2, 65_533, 3, 65_532].map(wire);
+    file(TREE, (0..n).map(|i| tree_net(i as u16, MOST_WIRES, &ends, &ends)).collect())
+}
+
+/// Nets of two nodes that hang in one another in a vicious circle, one of them on a wire near the greatest.
+fn far_circles(n: usize) -> Vec<u8> {
+    let of = nodes_name();
+    let on = |a, b| [wire(a), branching(&of, &[wire(b)])];
+    let linked = [on(2, 65_533), on(65_533, 2)].concat();
+    file(TREE, (0..n).map(|i| tree_net(i as u16, MOST_WIRES, &[], &linked)).collect())
+}
+
 // ---- pairs
 
 /// n pairs, half of them at places of nodes and half nowhere.
@@ -208,6 +224,10 @@ pub fn cases() -> Vec<Case> {
         add("deep trees", CHAINS, &|n| (deep_trees(n), vec![]));
         add("links in one chain", LINKS, &|n| (chain_of_links(n), vec![]));
         add("trees that hang in trees", NODES, &|n| (hanging_trees(n), vec![]));
+        add("links of far wires", NETS, &|n| (far_links(n), vec![]));
+        if call == Call::ResolveTree {
+            add("circles of far wires", NETS, &|n| (far_circles(n), vec![]));
+        }
     }
     cases
 }

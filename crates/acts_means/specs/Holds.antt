@@ -36,7 +36,7 @@ use Rattle.names_means.specs.Kept as Names
 use Rattle.run_means.specs.Count.{LimitFits}
 use Rattle.visit_means.specs.Tells.{Tells}
 use Rattle.seen_means.specs.Seen.{FreePlaces}
-use Rattle.graft_means.specs.Tests.{Called}
+use Rattle.means.specs.Names.{Called}
 use Rattle.graft_means.specs.Held.{called-kept}
 use Rattle.acts_means.specs.Acted.{Finished, Untouched, DoneBy, act-tells}
 

@@ -46,7 +46,7 @@ use Rattle.measure_means.specs.Sums.{total}
 use Rattle.measure_means.specs.Slots.{Counts, netTotal, netWeight}
 use Rattle.measure_means.specs.Nets.{Follows, countedNodes, nets-nodes}
 use Rattle.measure_means.specs.Measured.{measured-is, measured-exactly}
-use Rattle.result_means.specs.Nets.{netWord}
+use Rattle.means.specs.Names.{netWord}
 use Rattle.result_means.specs.File.{write-is}
 use Rattle.result_held.specs.Follow.{image-follows}
 use Rattle.result_held.specs.Held.{Places, image-lists, image-writable, image-marked}

@@ -96,7 +96,7 @@ module _ (s ws : List ℕ) (b : Bytes s) (short : length s ≤ far) (l : scratch
   -- ---- measured
 
   abbrev begun : List ℕ
-  begun = zeroed 65537 ws
+  begun = zeroed 67649 ws
 
   begun-clean : Clean begun
   begun-clean = clean-zeroed ws (omega arith)
@@ -168,7 +168,7 @@ module _ (s ws : List ℕ) (b : Bytes s) (short : length s ≤ far) (l : scratch
 
   left-kept : zeroed scratchWords (totalLeft s ws) ≡ zeroed scratchWords ws
   unfolding totalLeft
-  left-kept = sums-kept scratchWords (omega arith) s b (count s) begun (record { at = first s; wires = 0; to = first s }) ∙ zeroed-within 65537 scratchWords ws (omega arith)
+  left-kept = sums-kept scratchWords (omega arith) s b (count s) begun (record { at = first s; wires = 0; to = first s }) ∙ zeroed-within 67649 scratchWords ws (omega arith)
 
   whole-kept : zeroed scratchWords (wholeLeft s (totalLeft s ws)) ≡ zeroed scratchWords ws
   unfolding wholeLeft

@@ -30,10 +30,10 @@ module _ (s : List ℕ) where
 
   -- the nets measured, with no links in the words at first, and the words then
   unfoldable pub total : List ℕ → Total
-  total ws = summedAll s (zeroed 65537 ws) (record { at = first; wires = 0; to = first }) count
+  total ws = summedAll s (zeroed 67649 ws) (record { at = first; wires = 0; to = first }) count
 
   unfoldable pub totalLeft : List ℕ → List ℕ
-  totalLeft ws = passedAll s (zeroed 65537 ws) (record { at = first; wires = 0; to = first }) count
+  totalLeft ws = passedAll s (zeroed 67649 ws) (record { at = first; wires = 0; to = first }) count
 
   -- the result of length n written, and the words then
   unfoldable pub wholeOut : List ℕ → ℕ → List ℕ → List ℕ

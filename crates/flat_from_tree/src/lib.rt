@@ -13,7 +13,7 @@ ghost use Rattle.flat_from_tree.specs.Words.{total, totalLeft, wholeOut,
 fn measure(s: &[u8], ws: &mut [u32]) -> Total
     ensures { λ r. ⌜ (r ≡ total (now (s .entry)) (now (ws .entry))) × (now (ws .exit) ≡ totalLeft (now (s .entry)) (now (ws .entry))) ⌝ }
 {
-    clear::clear_words(ws, 65537);
+    clear::clear_words(ws, 67649);
     let q = readers::net_count_at(s);
     let from = ends::on(s, q, 2);
     let n = fields::be16(s, q);

@@ -1,22 +1,33 @@
 -- Tree nets of a file as flat nets: each measured, then written. Level Words: the numbers, the table of links and the output.
-use Prim.Native.Nat.{ℕ, zero, suc, _+_, _*_, _%_}
-use mathlib.Core.List.{List, _++_}
+use Prim.Native.Nat.{ℕ, zero, suc, _+_, _*_, _/_, _%_}
+use mathlib.Core.List.{List, [], _∷_, _++_}
 use lib.ListN.{set}
 use lib.Seq.{sets}
 use lib.Dec.{eqb}
 use Rattle.words.specs.Choose.{if-lt}
 use Rattle.net_file.specs.Write.{be, writeHead}
 use Rattle.fields.specs.Fields.{byte, be16}
-use Rattle.clear.specs.Zeroed.{zeroed}
-use Rattle.wire_links.specs.Table.{on, extent, pairCount, pairsEnd, pairsOut}
+use Rattle.wire_links.specs.Table.{on, extent, looksBelow, pairCount, pairsEnd, pairsOut}
 use Rattle.embed_nets.specs.Nets.{netWalked, netHung, netWritten}
 use Rattle.flat_nets.specs.declared.Measured.{Measured}
 use Rattle.flat_nets.specs.declared.Total.{Total}
 use Rattle.flat_nets.specs.declared.Spot.{Spot}
 
--- the table without links again
+-- n words from a place on made 0
+unfoldable pub zeroFrom : ℕ → ℕ → List ℕ → List ℕ
+zeroFrom i zero ws = ws
+zeroFrom i (suc n) ws = zeroFrom (suc i) n (set ws i 0)
+
+-- the words of some wires made 0
+unfoldable pub emptyOver : List ℕ → List ℕ → List ℕ
+emptyOver [] ws = ws
+emptyOver (w ∷ l) ws = emptyOver l (set ws w 0)
+
+-- the table without links again: the wires that are looked at, the word behind it and the marks that far
 unfoldable pub emptied : List ℕ → List ℕ
-emptied ws = set (zeroed (extent ws 65536) ws) 65536 0
+emptied ws =
+    let e = extent ws 65536 in
+    zeroFrom 65601 ((e + 31) / 32) (zeroFrom 65536 (1 + (e + 1023) / 1024) (emptyOver (looksBelow ws 65536) ws))
 
 module _ (s : List ℕ) where
   -- the table with the links of the net at a place

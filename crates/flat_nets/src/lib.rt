@@ -1,11 +1,12 @@
 // Tree nets of a file as flat nets: each is measured, and then written. `to_flat` of net.rs, net by net.
 ghost use mathlib.Core.Path.{_≡_};
 ghost use lib.Dec.{eqb};
-ghost use Prim.Native.Nat.{_+_};
+ghost use lib.ListN.{length};
+ghost use Prim.Native.Nat.{_+_, _-_, _≤_};
 ghost use Rattle.net_file.specs.Lists.{bit};
 ghost use Rattle.fields.specs.Fields.{byte};
-ghost use Rattle.flat_nets.specs.Flat.{measured, linked, emptied, size, summed, passed, summedAll, passedAll, headWritten, beforePlace, beforeWritten, netSpot, netWords, netOut, netsSpot, netsWords, netsOut};
-ghost use Rattle.wire_links.specs.Table.{on};
+ghost use Rattle.flat_nets.specs.Flat.{zeroFrom, emptyOver, emptied, measured, linked, size, summed, passed, summedAll, passedAll, headWritten, beforePlace, beforeWritten, netSpot, netWords, netOut, netsSpot, netsWords, netsOut};
+ghost use Rattle.wire_links.specs.Table.{on, extent, looksBelow};
 
 // ---- measured
 
@@ -18,13 +19,52 @@ pub struct Measured {
     pub bytes: usize,
 }
 
-// The table without links again. To clear all 65,536 words would take longer than a usual net.
+// Words from a place up to another made 0: one plain fill.
+fn fill(ws: &mut [u32], from: usize, to: usize)
+    requires { ⌜ to ≤ length (now ws) ⌝ }
+    ensures { λ _. ⌜ now (ws .exit) ≡ zeroFrom from (to - from) (now (ws .entry)) ⌝ }
+{
+    let mut i = from;
+    while i < to {
+        ws[i] = 0;
+        i += 1;
+    }
+}
+
+// n words from a place on made 0, as far as there are words.
+fn zero_words(ws: &mut [u32], from: u32, n: u32)
+    ensures { λ _. ⌜ now (ws .exit) ≡ zeroFrom from n (now (ws .entry)) ⌝ }
+{
+    let to = from as usize + n as usize;
+    let end = ws.len();
+    if to < end {
+        fill(ws, from as usize, to)
+    } else {
+        fill(ws, from as usize, end)
+    }
+}
+
+// The words of the wires that are looked at made 0; how far wires are linked.
+fn empty_wires(ws: &mut [u32]) -> u32
+    ensures { λ r. ⌜ (r ≡ extent (now (ws .entry)) 65536) × (r ≤ 65536) × (now (ws .exit) ≡ emptyOver (looksBelow (now (ws .entry)) 65536) (now (ws .entry))) ⌝ }
+{
+    let e = wire_links::extent(ws, 65536);
+    let mut w: u32 = 0;
+    while w < e {
+        words::put(ws, w as usize, 0);
+        w += wire_blocks::stride(ws, wire_links::MARKS, w);
+    }
+    e
+}
+
+// The table without links again: the words of those wires, the word behind the table, and the marks of the rows and of the blocks below it.
+// To clear all words would take longer than a usual net.
 fn empty(ws: &mut [u32])
     ensures { λ _. ⌜ now (ws .exit) ≡ emptied (now (ws .entry)) ⌝ }
 {
-    let e = wire_links::extent(ws, 65536);
-    clear::clear_words(ws, e as usize);
-    words::put(ws, 65536, 0)
+    let e = empty_wires(ws);
+    zero_words(ws, 65536, 1 + (e + 1023) / 1024);
+    zero_words(ws, 65601, (e + 31) / 32)
 }
 
 // The net at a place, with a table without links. Its links are in the table then.

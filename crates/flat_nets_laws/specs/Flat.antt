@@ -16,9 +16,9 @@ use Rattle.put.specs.Written.{numbers}
 use Rattle.put.specs.Fields.{size-numbers}
 use Rattle.text_writers.specs.Wrote.{far, Wrote}
 use Rattle.conversions.specs.Links.{pairsOf}
-use Rattle.wire_links.specs.Table.{on, extent, pairCount, pairsEnd, pairsOut}
+use Rattle.wire_links.specs.Table.{on, looksBelow, pairCount, pairsEnd, pairsOut}
 use Rattle.wire_links_laws.specs.Means.{Means}
-use Rattle.wire_links_laws.specs.Top.{extent-least, pairs-scanned}
+use Rattle.wire_links_laws.specs.Top.{looks-low, pairs-scanned}
 use Rattle.wire_links_laws.specs.Pairs.{pairsIn, pairs-mean, pairs-counted, pairs-wrote}
 use Rattle.embed_laws.specs.Numbers.{tops, flatsAll}
 use Rattle.embed_laws.specs.Nets.{freeWires, flatWires, flatLinks, flatNodes, flatOf, linksFlats}
@@ -137,17 +137,17 @@ module _ (s : List ℕ) (bytes : Bytes s) (at : ℕ) (inside : treeNetEnd s at �
     unfolding linked
     linked-means = net-means s bytes at inside low 0 0 (omega arith) fits ws (clean-means ws clean)
 
-    -- how far it is looked for pairs
-    abbrev e : ℕ
-    e = extent (linked s ws at) (flatWires net)
+    -- the wires that are looked at for pairs
+    abbrev looks : List ℕ
+    looks = looksBelow (linked s ws at) (flatWires net)
 
-    linked-pairs : pairsIn (linked s ws at) e e ≡ flatPairs net
+    linked-pairs : pairsIn (linked s ws at) looks ≡ flatPairs net
     linked-pairs =
         pairs-scanned (linked s ws at) (linked-topped s bytes ws clean at) (flatWires net) fits ∙ pairs-mean (linked s ws at) (flatLinks net) linked-means (flatWires net) fits
 
     measured-pairs : measured s ws at .pairs ≡ length (flatPairs net)
     unfolding pairCount
-    measured-pairs = pairs-of ∙ ap (pairCount (linked s ws at)) fit-wires ∙ pairs-counted (linked s ws at) e e (omega arith) ∙ ap length linked-pairs
+    measured-pairs = pairs-of ∙ ap (pairCount (linked s ws at)) fit-wires ∙ pairs-counted (linked s ws at) looks ∙ ap length linked-pairs
 
     -- how many bytes it takes, as far as that can be said
     pub size-is : size s at (measured s ws at) ≡ min far (length (writeFlatNet (flatOf net)))
@@ -190,8 +190,7 @@ module _ (s : List ℕ) (bytes : Bytes s) (at : ℕ) (inside : treeNetEnd s at �
       pairs-laid o l =
           let q = all-said in
           let c = counts-place in
-          let m = extent-least (linked s ws at) (flatWires net) in
-          rw (pairs-place, fit-wires, ← linked-pairs) (pairs-wrote (linked s ws at) words-low e e (pairsCountAt s at to + 2) o (omega arith) (omega arith) (omega arith) l)
+          rw (pairs-place, fit-wires, ← linked-pairs) (pairs-wrote (linked s ws at) words-low looks (looks-low (linked s ws at) (flatWires net) fits) (pairsCountAt s at to + 2) o (omega arith) l)
 
       count-place : nodesCountAt s (linked s ws at) at to (measured s ws at) ≡ pairsCountAt s at to + 2 + length (concatMap writePair (flatPairs net))
       count-place =

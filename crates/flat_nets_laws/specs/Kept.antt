@@ -1,5 +1,5 @@
 -- The walk leaves the words past the table of links as they were: with the table zeroed, and more, nothing is left of it.
-use Prim.Native.Nat.{ℕ, zero, suc, _+_, _<_, _≤_}
+use Prim.Native.Nat.{ℕ, zero, suc, _+_, _/_, _<_, _≤_}
 use mathlib.Core.Path.{_≡_, refl, ap, _∙_}
 use mathlib.Core.List.{List, [], _∷_}
 use native.Mathlib.Omega.{arith}
@@ -7,15 +7,17 @@ use native.Mathlib.Nat.{not-suc-le-zero}
 use lib.ListN.{set}
 use Rattle.words.specs.Choose.{eq-split, lt-split}
 use Rattle.net_file_laws.specs.Bytes.{Bytes}
+use Rattle.net_file_laws.specs.Exact.{Each}
 use Rattle.fields.specs.Fields.{be16}
 use Rattle.clear.specs.Zeroed.{zeroed}
-use Rattle.wire_links.specs.Table.{far, raised, join, link, extent}
-use Rattle.wire_links_laws.specs.Top.{extent-least}
+use Rattle.wire_blocks.specs.Blocks.{marked}
+use Rattle.wire_links.specs.Table.{far, raised, join, link, extent, looksBelow}
+use Rattle.wire_links_laws.specs.Top.{extent-least, looks-low}
 use Rattle.embed.specs.declared.Growth.{Growth}
 use Rattle.embed_nets.specs.Nets.{hung, leftWalked, linkHung, linksHung, linkWalked, netHung}
 use Rattle.flat_nets.specs.declared.Total.{Total}
 use Rattle.flat_nets.specs.declared.Spot.{Spot}
-use Rattle.flat_nets.specs.Flat.{linked, emptied, passed, summed, passedAll, netSpot, netWords, netsWords}
+use Rattle.flat_nets.specs.Flat.{zeroFrom, emptyOver, linked, emptied, passed, summed, passedAll, netSpot, netWords, netsWords}
 use Rattle.flat_nets_laws.specs.Links.{two-low, top-low}
 
 pub zeroed-within : (k m : ℕ) (ws : List ℕ) → k ≤ m → zeroed m (zeroed k ws) ≡ zeroed m ws
@@ -36,22 +38,38 @@ far-low : (ws : List ℕ) (a : ℕ) → a < 65536 → far ws a < 65536
 unfolding far
 far-low ws a h = eq-split _ _ _ _ (λ (x : ℕ). x < 65536) (λ e. h) (λ e. omega arith)
 
-module _ (m : ℕ) (wide : 65537 ≤ m) where
-  raised-kept : (ws : List ℕ) (x : ℕ) → zeroed m (raised ws x) ≡ zeroed m ws
+module _ (m : ℕ) (wide : 67649 ≤ m) where
+  marked-kept : (ws : List ℕ) (x : ℕ) → x < 65536 → zeroed m (marked 65537 ws x) ≡ zeroed m ws
+  unfolding marked
+  marked-kept ws x h = zeroed-put m (set ws (65537 + x / 1024) 1) (65601 + x / 32) 1 (omega arith) ∙ zeroed-put m ws (65537 + x / 1024) 1 (omega arith)
+
+  raised-kept : (ws : List ℕ) (x : ℕ) → x < 65536 → zeroed m (raised ws x) ≡ zeroed m ws
   unfolding raised
-  raised-kept ws x = lt-split _ _ _ _ (λ (l : List ℕ). zeroed m l ≡ zeroed m ws) (λ h. refl) (λ h. zeroed-put m ws 65536 (x + 1) (omega arith))
+  raised-kept ws x h =
+      let e = marked-kept ws x h in
+      lt-split _ _ _ _ (λ (l : List ℕ). zeroed m l ≡ zeroed m ws) (λ k. e) (λ k. zeroed-put m (marked 65537 ws x) 65536 (x + 1) (omega arith) ∙ e)
 
   join-kept : (ws : List ℕ) (x y : ℕ) → x < 65536 → y < 65536 → zeroed m (join ws x y) ≡ zeroed m ws
   unfolding join
   join-kept ws x y h k =
       eq-split _ _ _ _ (λ (l : List ℕ). zeroed m l ≡ zeroed m ws) (λ e. refl)
-      (λ e. raised-kept _ y ∙ raised-kept _ x ∙ zeroed-put m (set ws x (y + 1)) y (x + 1) (omega arith) ∙ zeroed-put m ws x (y + 1) (omega arith))
+      (λ e. raised-kept _ y k ∙ raised-kept _ x h ∙ zeroed-put m (set ws x (y + 1)) y (x + 1) (omega arith) ∙ zeroed-put m ws x (y + 1) (omega arith))
 
   link-kept : (ws : List ℕ) (a b : ℕ) → a < 65536 → b < 65536 → zeroed m (link ws a b) ≡ zeroed m ws
   unfolding link
   link-kept ws a b h k =
       join-kept (set (set ws a 0) b 0) (far ws a) (far (set ws a 0) b) (far-low ws a h) (far-low (set ws a 0) b k)
       ∙ zeroed-put m (set ws a 0) b 0 (omega arith) ∙ zeroed-put m ws a 0 (omega arith)
+
+  from-kept : (n i : ℕ) (ws : List ℕ) → i + n ≤ m → zeroed m (zeroFrom i n ws) ≡ zeroed m ws
+  unfolding zeroFrom
+  from-kept zero i ws h = refl
+  from-kept (suc n) i ws h = from-kept n (suc i) (set ws i 0) (omega arith) ∙ zeroed-put m ws i 0 (omega arith)
+
+  over-kept : (l : List ℕ) (ws : List ℕ) → Each (λ a. a < 65536) l → zeroed m (emptyOver l ws) ≡ zeroed m ws
+  unfolding emptyOver
+  over-kept [] ws h = refl
+  over-kept (w ∷ l) ws h = let i = h .0 in over-kept l (set ws w 0) (h .1) ∙ zeroed-put m ws w 0 (omega arith)
 
   module _ (s : List ℕ) (bytes : Bytes s) where
     hung-kept : (ws : List ℕ) (a : Growth) → a .top < 65536 → zeroed m (hung s ws a) ≡ zeroed m ws
@@ -73,7 +91,10 @@ module _ (m : ℕ) (wide : 65537 ≤ m) where
 
     emptied-kept : (ws : List ℕ) → zeroed m (emptied ws) ≡ zeroed m ws
     unfolding emptied
-    emptied-kept ws = zeroed-put m (zeroed (extent ws 65536) ws) 65536 0 (omega arith) ∙ zeroed-within (extent ws 65536) m ws (omega (arith, extent-least ws 65536))
+    emptied-kept ws =
+        let h = extent-least ws 65536 in
+        from-kept ((extent ws 65536 + 31) / 32) 65601 _ (omega arith) ∙ from-kept (1 + (extent ws 65536 + 1023) / 1024) 65536 _ (omega arith)
+        ∙ over-kept (looksBelow ws 65536) ws (looks-low ws 65536 (omega arith))
 
     pub sums-kept : (k : ℕ) (ws : List ℕ) (t : Total) → zeroed m (passedAll s ws t k) ≡ zeroed m ws
     unfolding passedAll passed

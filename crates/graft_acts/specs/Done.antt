@@ -30,7 +30,8 @@ use Rattle.run_slice.specs.Run.{count-step}
 use Rattle.script_means.specs.Tries.{Between}
 use Rattle.names_means.specs.Kept.{Kept}
 use Rattle.graft_means.specs.Ready.{graftOf, fits, Acts, Ready, between, grafting}
-use Rattle.graft_means.specs.Tests.{Called, Children, Waits, graft-means}
+use Rattle.means.specs.Names.{Called}
+use Rattle.graft_means.specs.Tests.{Children, Waits, graft-means}
 use Rattle.visit_means.specs.Tells.{Tells}
 use Rattle.run_means.specs.Count.{LimitFits}
 use Rattle.acts_means.specs.Acted.{Finished, finish-means}

@@ -35,7 +35,8 @@ use Rattle.script_means.specs.Tries.{Between, net-read, name-read}
 use Rattle.names_means.specs.Kept.{Kept}
 use Rattle.visit_means.specs.Tells.{Tells}
 use Rattle.graft_means.specs.Ready.{Acts}
-use Rattle.graft_means.specs.Tests.{netWord, Called, Children, Waits, graft-means}
+use Rattle.means.specs.Names.{netWord, Called}
+use Rattle.graft_means.specs.Tests.{Children, Waits, graft-means}
 
 -- ---- the words
 

@@ -37,18 +37,10 @@ use Rattle.means.specs.Frame.{real-inside}
 use Rattle.graph_means.specs.Wires.{follow-real}
 use Rattle.waits_means.specs.Await.{await-net-ready}
 use Rattle.script_means.specs.Tries.{Between, slot-low}
+use Rattle.means.specs.Names.{netWord, Called}
 use Rattle.visit_means.specs.Tells.{Tells}
 use Rattle.graft_means.specs.Ready.{Acts, graft-ready-tells}
 use Rattle.graft_means.specs.Ready as Net
-
--- the word of the net of a name: its number and one more, 0 where no included net has the name
-abbrev pub netWord : Option ℕ → ℕ
-netWord none = 0
-netWord (some k) = k + 1
-
--- the words from 64 on say which net has which name
-abbrev pub Called : List ℕ → Engine → Type 0
-Called ws e = (name : ℕ) → name < 1024 → getD ws (64 + name) 0 ≡ netWord (getNet e name)
 
 -- the file's bytes at a place say a name's children
 pub record Children (file : List ℕ) (place : ℕ) (name : Name) : Type 0 where

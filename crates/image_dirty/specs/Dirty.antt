@@ -12,9 +12,9 @@ use Rattle.marks.specs.Marks.{clear, mark}
 use Rattle.marks.specs.Walks.{says}
 use Rattle.image_lists.specs.Lists as lists
 
--- entry i names a slot in use
+-- entry i names a slot
 unfoldable pub entry-holds : List ℕ → ℕ → Bool
-entry-holds ws i = ltb (getD ws (dirty-at i) 0) (getD ws 9 0)
+entry-holds ws i = ltb (getD ws (dirty-at i) 0) (node-pool ws)
 
 -- so do all k entries
 unfoldable pub entries-hold : List ℕ → ℕ → Bool

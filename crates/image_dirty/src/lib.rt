@@ -3,11 +3,11 @@ ghost use mathlib.Core.Path.{_≡_};
 ghost use Rattle.image_dirty.specs.Dirty.{entry-holds, entries-hold, meets, meet, meet-all, mark-holds, marks-hold, sizes-hold, counts-from, counts-hold, dirty-holds};
 use kinds::NodeId;
 
-// Entry i names a slot in use.
+// Entry i names a slot.
 fn entry_holds(ws: &[u32], i: u32) -> bool
     ensures { λ r. ⌜ r ≡ entry-holds (now (ws .entry)) i ⌝ }
 {
-    words::get(ws, layout::dirty_at(i)) < words::get(ws, layout::FRESH_SLOT)
+    words::get(ws, layout::dirty_at(i)) < words::get(ws, layout::NODE_POOL)
 }
 
 // So do all k entries.

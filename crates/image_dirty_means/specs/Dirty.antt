@@ -25,7 +25,6 @@ use Rattle.marks.specs.Marks.{clear, mark}
 use Rattle.marks.specs.Walks.{says}
 use Rattle.image_dirty.specs.Dirty.{entry-holds, entries-hold, meets, meet, meet-all, mark-holds, marks-hold, sizes-hold, counts-from, counts-hold, dirty-holds}
 use Rattle.image_means.specs.Yes.{same-yes, most-yes, given-yes, each-yes}
-use Rattle.image_means.specs.Tidy.{Tidy}
 use Rattle.image_means.specs.Sizes.{sizes-pass}
 use Rattle.image_means.specs.Meets.{Meets, meets-start, meets-old, meets-new, meets-seen, meets-count}
 use Rattle.rule_laws.specs.Ids.{at-mem}
@@ -43,7 +42,7 @@ meets-met : (ws marks : List ℕ) (n : ℕ) → node-word ws n 2 ≡ 1 → getD 
 unfolding meets clear
 meets-met ws marks n a b = sym (eq-yes (node-word ws n 2) 1 _ _ a (sym (ne-eqb (getD marks n 0) 0 (omega arith))))
 
-module _ (Named : ℕ → Name → Type 0) (s ws : List ℕ) (e : Engine) (m : Means Named ws e) (t : Tidy s ws e) (r : ℕ → ℕ) (good : Good r e) where
+module _ (Named : ℕ → Name → Type 0) (ws : List ℕ) (e : Engine) (m : Means Named ws e) (r : ℕ → ℕ) (good : Good r e) where
   live : ℕ → Bool
   live n = getD (e .slots .marks) n false
 
@@ -78,11 +77,8 @@ module _ (Named : ℕ → Name → Type 0) (s ws : List ℕ) (e : Engine) (m : M
       go true x true y = rw (meets-met ws marks n (dirty-word n h true x) (marked true y)) (meets-old (k .0) (λ _. y), k .1)
       go false x y z = rw (meets-clean ws marks n (dirty-word n h false x)) (meets-old (k .0) (λ i. absurd (false≢true (sym x ∙ i))), k .1)
 
-  item-inside : (i : ℕ) → i < length (e .dirty .items) → (getD (e .dirty .items) i 0 < getD ws 9 0) × (getD (e .dirty .items) i 0 < e .pools .nodes)
-  item-inside i h =
-      let u = t .dirtied (getD (e .dirty .items) i 0) (at-mem (e .dirty .items) i h) in
-      let a = m .vacant .all in
-      (u, omega arith)
+  item-inside : (i : ℕ) → i < length (e .dirty .items) → getD (e .dirty .items) i 0 < e .pools .nodes
+  item-inside i h = good .dirty .slots (getD (e .dirty .items) i 0) (at-mem (e .dirty .items) i h)
 
   -- one turn
   meet-turn : (marks : List ℕ) (i met k x : ℕ) → getD ws (dirty-at i) 0 ≡ x → next i ≡ suc i
@@ -101,7 +97,7 @@ module _ (Named : ℕ → Name → Type 0) (s ws : List ℕ) (e : Engine) (m : M
       let b = m .header .few-nodes in
       let n : next i ≡ suc i = omega arith in
       let w : getD ws (dirty-at i) 0 ≡ getD (e .dirty .items) i 0 = m .dirty .item i h in
-      let q = meet-passes marks (getD (e .dirty .items) i 0) met (drop (suc i) (e .dirty .items)) (item-inside i h .1) (rw (drop-cons (e .dirty .items) i 0 h) at g) in
+      let q = meet-passes marks (getD (e .dirty .items) i 0) met (drop (suc i) (e .dirty .items)) (item-inside i h) (rw (drop-cons (e .dirty .items) i 0 h) at g) in
       subst (λ (l : Left ℕ). Stage l []) (sym (meet-turn marks i met k (getD (e .dirty .items) i 0) w n)) (meet-all-passes k (suc i) _ _ (omega arith) q)
 
   -- ---- the whole walk
@@ -154,7 +150,7 @@ module _ (Named : ℕ → Name → Type 0) (s ws : List ℕ) (e : Engine) (m : M
       let b = m .header .few-nodes in
       each-yes _ 0 (length (e .dirty .items)) (omega arith) (λ j l h.
       let i : j < length (e .dirty .items) = omega arith in
-      lt-ltb (getD ws (dirty-at j) 0) (getD ws 9 0) (subst (λ (x : ℕ). x < getD ws 9 0) (sym (m .dirty .item j i)) (item-inside j i .0)))
+      lt-ltb (getD ws (dirty-at j) 0) (node-pool ws) (let w = m .dirty .item j i in let n = m .header .nodes in let u = item-inside j i in omega arith))
 
   sizes-are : sizes-hold (e .pools .nodes) (length (e .dirty .items)) (e .dirty .capacity) (e .dirty .stale) ≡ true
   unfolding sizes-hold

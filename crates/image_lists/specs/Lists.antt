@@ -3,11 +3,10 @@
 use Prim.Native.Nat.{ℕ, zero, suc, _+_, _*_, _%_}
 use mathlib.Core.Bool.{Bool, true, false}
 use mathlib.Core.List.{List}
-use lib.ListN.{getD}
 use lib.Dec.{eqb, ltb}
 use Rattle.words.specs.Choose.{if-lt, pick}
 use Rattle.words.specs.Left.{Left}
-use Rattle.layout.specs.Layout.{next, net-word, node-word, entry-word}
+use Rattle.layout.specs.Layout.{next, node-pool, net-word, node-word, entry-word}
 use Rattle.marks.specs.Tests.{same, other, most, given}
 use Rattle.marks.specs.Marks.{clear, mark}
 use Rattle.marks.specs.Walks.{says}
@@ -17,9 +16,9 @@ use Rattle.image_lists.specs.declared.Walk.{Walk}
 
 -- ---- entries and slots
 
--- entry c is in use, has not been met, and its slot is in use
+-- entry c is in use, has not been met, and names a slot
 unfoldable pub entry-holds : List ℕ → List ℕ → ℕ → Bool
-entry-holds ws marks c = given (is-new Entries ws marks c) (ltb (entry-word ws c 0) (getD ws 9 0))
+entry-holds ws marks c = given (is-new Entries ws marks c) (ltb (entry-word ws c 0) (node-pool ws))
 
 -- slot n holds a node of net t that has not been met
 unfoldable pub meets : List ℕ → List ℕ → ℕ → ℕ → Bool

@@ -8,12 +8,12 @@ use kinds::NodeId;
 
 // ---- marks: of entry c at c, of slot n at 16,385 + n
 
-// Entry c is in use, has not been met, and its slot is in use.
+// Entry c is in use, has not been met, and names a slot.
 fn entry_holds(ws: &[u32], marks: &[u8], c: u32) -> bool
     ensures { λ r. ⌜ r ≡ entry-holds (now (ws .entry)) (now (marks .entry)) c ⌝ }
 {
     if image_chains::is_new(ws, marks, Pool::Entries, c) {
-        return layout::entry_word(ws, c, 0) < words::get(ws, layout::FRESH_SLOT);
+        return layout::entry_word(ws, c, 0) < words::get(ws, layout::NODE_POOL);
     }
     false
 }

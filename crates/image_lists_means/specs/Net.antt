@@ -16,7 +16,7 @@ use Rattle.words.specs.Choose.{pick, pick-true, pick-false, eq-yes, eq-no}
 use Rattle.words.specs.Left.{Left}
 use Rattle.net_file.specs.Lists.{bit}
 use Rattle.net_file.specs.Values.{Name}
-use Rattle.layout.specs.Layout.{next, node-word, entry-word}
+use Rattle.layout.specs.Layout.{next, node-pool, node-word, entry-word}
 use Rattle.definitions.specs.State.{Engine, graphOf}
 use Rattle.join_laws.specs.Ports.{Frame, frame}
 use Rattle.dirty_laws.specs.Tally.{tally-most}
@@ -106,15 +106,15 @@ module _ (Named : ℕ → Name → Type 0) (ws : List ℕ) (e : Engine) (m : Mea
       pub met : Meets (e .pools .nodes) 16385 live before (r .ws) (r .is .met) []
       pub long : length (r .ws) ≡ 20481
 
-    -- an entry in use, of a slot in use
+    -- an entry in use that names a slot
     pub record EntryAt (c : ℕ) : Type 0 where
       pub pos : 0 < c
       pub low : c ≤ used Entries ws
-      pub slot : entry-word ws c 0 < getD ws 9 0
+      pub slot : entry-word ws c 0 < e .pools .nodes
 
     entry-passes : {marks : List ℕ} {count : ℕ} (q : Marked (used Entries ws) 0 marks count) (c : ℕ) → EntryAt c → q .has c ≡ false → entry-holds ws marks c ≡ true
     unfolding entry-holds
-    entry-passes q c a z = given-yes _ _ (new-passes Entries ws 0 spots q c (a .pos) (a .low) z) (lt-ltb (entry-word ws c 0) (getD ws 9 0) (a .slot))
+    entry-passes q c a z = given-yes _ _ (new-passes Entries ws 0 spots q c (a .pos) (a .low) z) (lt-ltb (entry-word ws c 0) (node-pool ws) (let n = m .header .nodes in let l = a .slot in omega arith))
 
     -- one entry on
     turn : (marks : List ℕ) (d b x n : ℕ) → entry-holds ws marks d ≡ true
@@ -158,13 +158,10 @@ module _ (Named : ℕ → Name → Type 0) (ws : List ℕ) (e : Engine) (m : Mea
     walk-passes (d ∷ l) marks c b x count few s o a q n t long =
         let y = a .0 in
         let low = y .low in
-        let fits = m .vacant .all in
-        let slot = y .slot in
-        let inside : entry-word ws d 0 < e .pools .nodes = omega arith in
         let q₁ = mark-place q d (y .pos) (y .low) (n .0) in
         let long₁ : length (set marks (0 + d) 1) ≡ 20481 = length-set marks (0 + d) 1 ∙ long in
         let t₁ = meets-keep t (set marks (0 + d) 1) (λ i h. getD-set-other marks (0 + d) (16385 + i) 1 0 (omega arith)) in
-        let r = meet-passes (set marks (0 + d) 1) (entry-word ws d 0) x (map (λ d. entry-word ws d 0) l) inside long₁ t₁ in
+        let r = meet-passes (set marks (0 + d) 1) (entry-word ws d 0) x (map (λ d. entry-word ws d 0) l) (y .slot) long₁ t₁ in
         let q₂ = places-keep q₁ (meet ws (set marks (0 + d) 1) (k + 1) (entry-word ws d 0) x .ws) (r .1 .0) (λ i p h. r .1 .1 (0 + i) (omega arith)) in
         let ih = walk-passes l (meet ws (set marks (0 + d) 1) (k + 1) (entry-word ws d 0) x .ws) (entry-word ws d 1) d (meet ws (set marks (0 + d) 1) (k + 1) (entry-word ws d 0) x .is) (count + 1) few
         (s .1) (o .1) (a .1) q₂ (still-new Entries ws 0 spots q d (y .pos) (y .low) (n .0) l (o .0) (n .1)) (r .0) (r .1 .0 ∙ long₁) in

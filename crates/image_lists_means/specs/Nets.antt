@@ -30,7 +30,6 @@ use Rattle.image_chains.specs.declared.Pool.the-variants.{Entries}
 use Rattle.image_lists.specs.declared.Walk.{Walk}
 use Rattle.image_lists.specs.Lists.{walk-list, sizes-hold, list-sizes-hold, first-holds, starts, end-holds, walked, list-holds}
 use Rattle.image_means.specs.Yes.{same-yes, other-yes, given-yes, each-with-yes}
-use Rattle.image_means.specs.Tidy.{Tidy}
 use Rattle.image_means.specs.Sizes.{sizes-pass}
 use Rattle.image_means.specs.Meets.{Meets, meets-start, meets-seen, meets-count}
 use Rattle.image_chains_means.specs.Places.{Marked, none-marked}
@@ -60,7 +59,7 @@ under-none : (o : Option ℕ) → under 0 o ≡ false
 under-none none = refl
 under-none (some j) = le-ltb j 0 (omega arith)
 
-module _ (Named : ℕ → Name → Type 0) (s ws : List ℕ) (e : Engine) (m : Means Named ws e) (t : Tidy s ws e) (good : Good rest e)
+module _ (Named : ℕ → Name → Type 0) (ws : List ℕ) (e : Engine) (m : Means Named ws e) (good : Good rest e)
     (firsts : (k : ℕ) → k < length (e .nets) → nth (netAt e k .list .items) 0 ≡ some (netAt e k .home .free)) where
   abbrev pub pool : Pool (entriesIn ws (e .pools .nodes)) (length (e .nets)) (itemsOf (e .nets)) (entries e)
   pool = m .lists
@@ -87,7 +86,7 @@ module _ (Named : ℕ → Name → Type 0) (s ws : List ℕ) (e : Engine) (m : M
     places-seg : Seg (λ d. entry-word ws d 1) (net-word ws (k + 1) 2) (pool .places k) 0
     places-seg = seg-same _ (λ d. entry-word ws d 1) _ (pool .places k) 0 (pool .nets k h .chain .seg) (all-of (λ c. word-is c 1) (pool .places k))
 
-    entries-at : (l xs : List ℕ) → map (λ c. entry-word ws c 0) l ≡ xs → ((n : ℕ) → List·Memᴰ n xs → n < getD ws 9 0) → All (Mine (pool .own) (getD ws 11 0 + 1) k) l → All (EntryAt Named ws e m k (below k)) l
+    entries-at : (l xs : List ℕ) → map (λ c. entry-word ws c 0) l ≡ xs → ((n : ℕ) → List·Memᴰ n xs → n < e .pools .nodes) → All (Mine (pool .own) (getD ws 11 0 + 1) k) l → All (EntryAt Named ws e m k (below k)) l
     unfolding used
     entries-at [] xs i g a = tt
     entries-at (c ∷ l) [] i g a = absurd (let z : suc (length (map (λ c. entry-word ws c 0) l)) ≡ 0 = ap (λ (x : List ℕ). length x) i in omega arith)
@@ -98,7 +97,7 @@ module _ (Named : ℕ → Name → Type 0) (s ws : List ℕ) (e : Engine) (m : M
         (record { pos = a .0 .pos; low = omega arith; slot = omega arith }, entries-at l xs (ap (drop 1) i) (λ n o. g n (List·Memᴰ·tail o)) (a .1))
 
     all-entries : All (EntryAt Named ws e m k (below k)) (pool .places k)
-    all-entries = entries-at (pool .places k) (netAt e k .list .items) places-items (λ n i. t .listed k n i) (pool .nets k h .chain .mine)
+    all-entries = entries-at (pool .places k) (netAt e k .list .items) places-items (good .lists k h .slots) (pool .nets k h .chain .mine)
 
     -- the first entry names the free node, and the last is an entry
     first-is : (l xs : List ℕ) (c : ℕ) → map (λ c. entry-word ws c 0) l ≡ xs → nth xs 0 ≡ some (netAt e k .home .free) → Seg (λ d. entry-word ws d 1) c l 0

@@ -21,7 +21,6 @@ use Rattle.image_chains.specs.Chains.{used, first-free, after, low, vacant, fre
 use Rattle.image_chains.specs.declared.Pool.the-variants.{Slots, Entries}
 use Rattle.image_lists.specs.Lists.{list-holds}
 use Rattle.image_pools.specs.Pools.{then, all-hold, pools-hold}
-use Rattle.image_means.specs.Tidy.{Tidy}
 use Rattle.image_chains_means.specs.Alls.{all-of}
 use Rattle.image_chains_means.specs.Places.{Marked, recount, all-places}
 use Rattle.image_chains_means.specs.Chains.{Through, Free, Kept, chain-others, pool-left, pool-passes}
@@ -34,14 +33,14 @@ then-yes : (r : Left Bool) (f : List ℕ → Left Bool) → r .is ≡ true → f
 unfolding then
 then-yes r f y h = ap (λ (x : Left Bool). x .is) (sym (pick-true _ _ _ y refl)) ∙ h
 
-module _ (Named : ℕ → Name → Type 0) (s ws : List ℕ) (e : Engine) (m : Means Named ws e) (t : Tidy s ws e) (good : Good rest e)
+module _ (Named : ℕ → Name → Type 0) (ws : List ℕ) (e : Engine) (m : Means Named ws e) (good : Good rest e)
     (firsts : (k : ℕ) → k < length (e .nets) → nth (netAt e k .list .items) 0 ≡ some (netAt e k .home .free)) where
   -- the marks after the lists
   abbrev marks : List ℕ
-  marks = walk-all Named s ws e m t good firsts .ws
+  marks = walk-all Named ws e m good firsts .ws
 
-  stage : Stage Named s ws e m t good firsts (length (e .nets)) marks
-  stage = all-lists Named s ws e m t good firsts .1
+  stage : Stage Named ws e m good firsts (length (e .nets)) marks
+  stage = all-lists Named ws e m good firsts .1
 
   free-entries : All (Free Entries ws 0 spots) (m .lists .freed)
   unfolding used vacant
@@ -56,7 +55,7 @@ module _ (Named : ℕ → Name → Type 0) (s ws : List ℕ) (e : Engine) (m : M
 
   free-seg : Seg (after Entries ws) (first-free Entries ws) (m .lists .freed) 0
   unfolding first-free after
-  free-seg = seg-same _ _ _ (m .lists .freed) 0 (m .lists .free .seg) (all-of (λ c. word-is Named s ws e m t good firsts c 1) (m .lists .freed))
+  free-seg = seg-same _ _ _ (m .lists .freed) 0 (m .lists .free .seg) (all-of (λ c. word-is Named ws e m good firsts c 1) (m .lists .freed))
 
   short : length (m .lists .freed) ≤ used Entries ws
   unfolding used
@@ -66,16 +65,16 @@ module _ (Named : ℕ → Name → Type 0) (s ws : List ℕ) (e : Engine) (m : M
   unfolding used low
   entries-pass =
       let a : length (m .lists .freed) + entries e ≡ getD ws 11 0 = m .lists .all in
-      let f : getD ws 11 0 ≤ 16384 = few-entries Named s ws e m t good firsts in
+      let f : getD ws 11 0 ≤ 16384 = few-entries Named ws e m good firsts in
       pool-passes Entries ws 0 spots (m .lists .freed) marks (stage .count) (stage .marked) refl (omega arith) free-seg short free-entries (m .lists .free .once) free-new
-      (λ r c p i. all-places (recount (r .marked) (getD ws 11 0) (let n = all-counted Named s ws e m t good firsts stage in omega arith)) c p i)
+      (λ r c p i. all-places (recount (r .marked) (getD ws 11 0) (let n = all-counted Named ws e m good firsts stage in omega arith)) c p i)
 
   kept : Kept Entries ws 0 spots (free-hold Entries ws marks (first-free Entries ws) (used Entries ws)) marks
   kept = chain-others Entries ws 0 spots (m .lists .freed) marks (first-free Entries ws) (used Entries ws) (stage .count) free-seg short free-entries (m .lists .free .once) (stage .marked) free-new
 
   vacant-pass : pool-holds Slots ws (pool-holds Entries ws marks .ws) .is ≡ true
   vacant-pass =
-      let f = few-entries Named s ws e m t good firsts in
+      let f = few-entries Named ws e m good firsts in
       rw (pool-left Entries ws 0 spots marks) (slots-pass Named ws e m good (free-hold Entries ws marks (first-free Entries ws) (used Entries ws) .ws)
       (λ n h. kept .1 (16385 + n) (λ d p l. omega arith) ∙ stage .seen n h) (kept .0 ∙ stage .long))
 
@@ -84,7 +83,7 @@ module _ (Named : ℕ → Name → Type 0) (s ws : List ℕ) (e : Engine) (m : M
   walked n = each-with (list-holds ws) (replicate 20481 0) 1 n
 
   all-pass : then (walked (length (e .nets))) (λ x. then (pool-holds Entries ws x) (pool-holds Slots ws)) .is ≡ true
-  all-pass = then-yes _ _ (all-lists Named s ws e m t good firsts .0) (then-yes _ _ entries-pass vacant-pass)
+  all-pass = then-yes _ _ (all-lists Named ws e m good firsts .0) (then-yes _ _ entries-pass vacant-pass)
 
   -- `pools-hold` answers yes
   pub pools-pass : pools-hold ws ≡ true

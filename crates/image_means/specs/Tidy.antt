@@ -1,13 +1,13 @@
 -- What begin and slices leave in the words besides what they mean: the mark, the held file's length, nothing to be removed, the table
--- of names, 0 as the name's place of free nodes alone, and that entries and waits, stale ones too, name slots in use.
+-- of names, and 0 as the name's place of free nodes alone.
 use Prim.Native.Nat.{ℕ, _+_, _<_, _≤_}
 use mathlib.Core.Path.{_≡_}
 use mathlib.Core.Logic.{_⊎_}
 use mathlib.Core.Bool.{true}
-use mathlib.Core.List.{List, List·Memᴰ}
+use mathlib.Core.List.{List}
 use lib.ListN.{length, getD}
 use Rattle.definitions.specs.Nets.{Home, holds}
-use Rattle.definitions.specs.State.{Net, Wait, Engine, graphOf, netAt}
+use Rattle.definitions.specs.State.{Engine, graphOf, netAt}
 use Rattle.layout.specs.Layout.{file-length, dead, net-by-name, node-word}
 
 -- the words ws of an engine e over a file of the bytes s
@@ -22,7 +22,3 @@ pub record Tidy (s ws : List ℕ) (e : Engine) : Type 0 where
   -- a free node's name has the place 0, and no other node's
   pub free-at : (k : ℕ) → k < length (e .nets) → node-word ws (netAt e k .home .free) 1 ≡ 0
   pub free-only : (k n : ℕ) → holds (graphOf e) k n ≡ true → node-word ws n 1 ≡ 0 → netAt e k .home .free ≡ n
-  -- entries of lists and waits name slots in use
-  pub listed : (k n : ℕ) → List·Memᴰ n (netAt e k .list .items) → n < getD ws 9 0
-  pub dirtied : (n : ℕ) → List·Memᴰ n (e .dirty .items) → n < getD ws 9 0
-  pub waiting : (k : ℕ) (w : Wait) → List·Memᴰ w (netAt e k .awaiting) → w .node < getD ws 9 0

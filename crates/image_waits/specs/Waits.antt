@@ -6,18 +6,18 @@ use lib.ListN.{getD}
 use lib.Dec.{eqb, ltb}
 use Rattle.words.specs.Choose.{pick}
 use Rattle.words.specs.Left.{Left}
-use Rattle.layout.specs.Layout.{nets, net-word, wait-word}
+use Rattle.layout.specs.Layout.{node-pool, nets, net-word, wait-word}
 use Rattle.marks.specs.Tests.{same, other, most, given}
 use Rattle.marks.specs.Marks.{mark}
 use Rattle.marks.specs.Walks.{says}
 use Rattle.image_chains.specs.Chains.{is-new}
 use Rattle.image_chains.specs.declared.Pool.the-variants.{Waits}
 
--- wait c is that of a slot in use, and of a net
+-- wait c is that of a slot, and of a net
 unfoldable pub wait-holds : List ℕ → ℕ → Bool
 wait-holds ws c =
     let t = wait-word ws c 1 in
-    other t 0 (most t (nets ws) (ltb (wait-word ws c 0) (getD ws 9 0)))
+    other t 0 (most t (nets ws) (ltb (wait-word ws c 0) (node-pool ws)))
 
 -- wait c is in use, has not been met, and is in order
 unfoldable pub is-wait : List ℕ → List ℕ → ℕ → Bool

@@ -5,7 +5,7 @@ ghost use Rattle.image_waits.specs.Waits.{wait-holds, is-wait, end-holds
 use image_chains::Pool;
 use kinds::NetId;
 
-// Wait c is that of a slot in use, and of a net.
+// Wait c is that of a slot, and of a net.
 fn wait_holds(ws: &[u32], c: u32) -> bool
     ensures { λ r. ⌜ r ≡ wait-holds (now (ws .entry)) c ⌝ }
 {
@@ -14,7 +14,7 @@ fn wait_holds(ws: &[u32], c: u32) -> bool
         return false;
     }
     if t <= words::get(ws, layout::NETS) {
-        return layout::wait_word(ws, c, 0) < words::get(ws, layout::FRESH_SLOT);
+        return layout::wait_word(ws, c, 0) < words::get(ws, layout::NODE_POOL);
     }
     false
 }

@@ -13,7 +13,7 @@ use Rattle.words.specs.Choose.{pick, pick-true, pick-false, eq-yes}
 use Rattle.words.specs.Left.{Left}
 use Rattle.net_file.specs.Lists
 use Rattle.net_file.specs.Lists.{bit}
-use Rattle.layout.specs.Layout.{nets, net-word, wait-word}
+use Rattle.layout.specs.Layout.{node-pool, nets, net-word, wait-word}
 use Rattle.definitions.specs.State.{Wait}
 use Rattle.good_laws.specs.Good.{madeBy}
 use Rattle.chains.specs.Seg.{Seg, All, Once, last}
@@ -45,13 +45,13 @@ pub record WaitAt (ws : List ℕ) (c : ℕ) : Type 0 where
   pub well : wait-holds ws c ≡ true
 
 module _ (ws : List ℕ) where
-  -- places with these waits there, which name slots in use and nets
-  pub wait-passes : (c : ℕ) (w : Wait) → waitOf ws c ≡ inWords w → w .node < getD ws 9 0 → w .net < nets ws → wait-holds ws c ≡ true
+  -- places with these waits there, which name slots and nets
+  pub wait-passes : (c : ℕ) (w : Wait) → waitOf ws c ≡ inWords w → w .node < node-pool ws → w .net < nets ws → wait-holds ws c ≡ true
   unfolding wait-holds
   wait-passes c w e a b =
       let f : wait-word ws c 0 ≡ w .node = ap (λ (x : ℕ × ℕ). x .0) e in
       let g : wait-word ws c 1 ≡ w .net + 1 = ap (λ (x : ℕ × ℕ). x .1) e in
-      rw g (other-yes _ _ _ (omega arith) (most-yes _ _ _ (omega arith) (lt-ltb (wait-word ws c 0) (getD ws 9 0) (omega arith))))
+      rw g (other-yes _ _ _ (omega arith) (most-yes _ _ _ (omega arith) (lt-ltb (wait-word ws c 0) (node-pool ws) (omega arith))))
 
   -- of the waits at these places as many are of net j
   pub made-count : (j : ℕ) (l : List ℕ) (us : List Wait) → map (waitOf ws) l ≡ map inWords us → Lists.count (λ c. eqb (wait-word ws c 1) (j + 1)) l ≡ madeBy j us

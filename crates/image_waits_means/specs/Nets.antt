@@ -16,11 +16,12 @@ use Rattle.words.specs.Left.{Left}
 use Rattle.net_file.specs.Lists
 use Rattle.net_file.specs.Lists.{bit, sum}
 use Rattle.net_file.specs.Values.{Name}
-use Rattle.layout.specs.Layout.{nets, net-word, wait-word}
+use Rattle.layout.specs.Layout.{node-pool, nets, net-word, wait-word}
 use Rattle.definitions.specs.State.{Wait, Net, Engine, netAt, waits}
 use Rattle.dirty_laws.specs.Tally.{tally, tally-none}
 use Rattle.good_laws.specs.Good.{madeBy, waitsOf}
 use Rattle.good_laws.specs.Idle.{Idle}
+use Rattle.waiter_laws.specs.Waiters.{Waited}
 use Rattle.chains.specs.Seg.{Seg, All, Once, Mine, Chain, all-map, seg-same, items-same}
 use Rattle.chains.specs.Pools.{Root, Pool}
 use Rattle.means.specs.Means.{noNet, waitsIn, awaitingOf, Means}
@@ -29,14 +30,13 @@ use Rattle.image_chains.specs.Chains.{used}
 use Rattle.image_chains.specs.declared.Pool.the-variants.{Waits}
 use Rattle.image_waits.specs.Waits.{idle, waits-from, net-holds}
 use Rattle.image_means.specs.Yes.{each-with-yes}
-use Rattle.image_means.specs.Tidy.{Tidy}
 use Rattle.image_chains_means.specs.Alls.{all-of, all-mem}
 use Rattle.image_chains_means.specs.Places.{Marked, none-marked}
 use Rattle.image_chains_means.specs.Chains.{Through}
 use Rattle.image_waits_means.specs.Net.{waitOf, inWords, WaitAt, wait-passes, made-count, waits-pass}
 
-module _ (Named : ℕ → Name → Type 0) (s ws : List ℕ) (e : Engine) (m : Means Named ws e) (t : Tidy s ws e)
-    (of : (k : ℕ) (w : Wait) → List·Memᴰ w (netAt e k .awaiting) → w .net < length (e .nets)) (idles : Idle e) where
+module _ (Named : ℕ → Name → Type 0) (ws : List ℕ) (e : Engine) (m : Means Named ws e)
+    (of : Waited (e .pools .nodes) (length (e .nets)) e) (idles : Idle e) where
   abbrev pub pool : Pool (waitsIn ws (e .pools .nodes) (e .pools .entries)) (length (e .nets)) (awaitingOf (e .nets)) (waits e)
   pool = m .waits-are
 
@@ -57,7 +57,7 @@ module _ (Named : ℕ → Name → Type 0) (s ws : List ℕ) (e : Engine) (m : M
     places-seg = seg-same _ (λ d. wait-word ws d 2) _ (pool .places k) 0 (pool .nets k h .chain .seg) (all-of (λ c. word-is c 2) (pool .places k))
 
     -- each place holds a wait in order
-    well : (l : List ℕ) (us : List Wait) → map (waitOf ws) l ≡ map inWords us → ((w : Wait) → List·Memᴰ w us → (w .node < getD ws 9 0) × (w .net < nets ws))
+    well : (l : List ℕ) (us : List Wait) → map (waitOf ws) l ≡ map inWords us → ((w : Wait) → List·Memᴰ w us → (w .node < node-pool ws) × (w .net < nets ws))
         → All (Mine (pool .own) (getD ws 13 0 + 1) k) l → All (WaitAt ws) l
     unfolding used
     well [] us i g a = tt
@@ -71,8 +71,9 @@ module _ (Named : ℕ → Name → Type 0) (s ws : List ℕ) (e : Engine) (m : M
 
     pub all-well : All (WaitAt ws) (pool .places k)
     all-well =
-        let n = m .header .nets-are in
-        well (pool .places k) (netAt e k .awaiting) places-items (λ w i. (t .waiting k w i, subst (λ (j : ℕ). w .net < j) (sym n) (of k w i))) (pool .nets k h .chain .mine)
+        well (pool .places k) (netAt e k .awaiting) places-items
+        (λ w i. (subst (λ (j : ℕ). w .node < j) (sym (m .header .nodes)) (of k w i .0), subst (λ (j : ℕ). w .net < j) (sym (m .header .nets-are)) (of k w i .1)))
+        (pool .nets k h .chain .mine)
 
     -- no wait on a net at 0
     not-idle : idle ws (k + 1) ≡ false

@@ -2,7 +2,7 @@
 use Prim.Native.Nat.{ℕ, _+_, _<_, _≤_}
 use mathlib.Core.Path.{_≡_, refl, sym, ap, _∙_, subst}
 use mathlib.Core.Bool.{Bool, true, false}
-use mathlib.Core.List.{List, List·Memᴰ}
+use mathlib.Core.List.{List}
 use native.Mathlib.Omega.{arith}
 use native.Mathlib.Nat.{zero-add}
 use lib.ListN.{length, getD, replicate}
@@ -11,9 +11,10 @@ use Rattle.words.specs.Left.{Left}
 use Rattle.net_file.specs.Lists.{bit}
 use Rattle.net_file.specs.Values.{Name}
 use Rattle.layout.specs.Layout.{wait-word}
-use Rattle.definitions.specs.State.{Wait, Engine, netAt, waits}
+use Rattle.definitions.specs.State.{Engine, waits}
 use Rattle.good_laws.specs.Good.{Good, rest}
 use Rattle.good_laws.specs.Idle.{Idle}
+use Rattle.waiter_laws.specs.Waiters.{Waited}
 use Rattle.chains.specs.Seg.{Seg, All, Mine, all-map, seg-same}
 use Rattle.means.specs.Means.{Means}
 use Rattle.marks.specs.Walks.{says, each-with}
@@ -22,7 +23,6 @@ use Rattle.image_chains.specs.Chains as chains
 use Rattle.image_chains.specs.Chains.{used, first-free, low, vacant, pool-holds}
 use Rattle.image_chains.specs.declared.Pool.the-variants.{Waits}
 use Rattle.image_pending.specs.Pending.{rest-holds, all-hold, waits-hold}
-use Rattle.image_means.specs.Tidy.{Tidy}
 use Rattle.image_chains_means.specs.Alls.{all-of}
 use Rattle.image_chains_means.specs.Places.{Marked, recount, all-places}
 use Rattle.image_chains_means.specs.Chains.{Through, Free, pool-passes}
@@ -30,10 +30,10 @@ use Rattle.image_waits_means.specs.Net.{spots}
 use Rattle.image_waits_means.specs.Nets.{pool, word-is, Stage, walk, all-nets, all-counted, all-made}
 use Rattle.image_waits_means.specs.Pending.{pending-passes}
 
-module _ (Named : ℕ → Name → Type 0) (s ws : List ℕ) (e : Engine) (m : Means Named ws e) (t : Tidy s ws e) (good : Good rest e)
-    (of : (k : ℕ) (w : Wait) → List·Memᴰ w (netAt e k .awaiting) → w .net < length (e .nets)) (idles : Idle e) where
-  stage : Stage Named s ws e m t of idles (length (e .nets)) (walk Named s ws e m t of idles .ws)
-  stage = all-nets Named s ws e m t of idles .1
+module _ (Named : ℕ → Name → Type 0) (ws : List ℕ) (e : Engine) (m : Means Named ws e) (good : Good rest e)
+    (of : Waited (e .pools .nodes) (length (e .nets)) e) (idles : Idle e) where
+  stage : Stage Named ws e m of idles (length (e .nets)) (walk Named ws e m of idles .ws)
+  stage = all-nets Named ws e m of idles .1
 
   free-places : All (Free Waits ws 0 spots) (m .waits-are .freed)
   unfolding used vacant
@@ -46,23 +46,23 @@ module _ (Named : ℕ → Name → Type 0) (s ws : List ℕ) (e : Engine) (m : M
       go d i true y = absurd (let o = stage .owned d y in let b = m .header .few-nets in omega arith)
       go d i false y = refl
 
-  pool-is : pool-holds Waits ws (walk Named s ws e m t of idles .ws) .is ≡ true
+  pool-is : pool-holds Waits ws (walk Named ws e m of idles .ws) .is ≡ true
   unfolding used first-free low chains.after
   pool-is =
       let a : length (m .waits-are .freed) + waits e ≡ getD ws 13 0 = m .waits-are .all in
       let u = m .used .waits in
       let f = m .header .few-waits in
-      pool-passes Waits ws 0 spots (m .waits-are .freed) (walk Named s ws e m t of idles .ws) (stage .count) (stage .marked) refl (omega arith)
-      (seg-same _ _ _ (m .waits-are .freed) 0 (m .waits-are .free .seg) (all-of (λ c. word-is Named s ws e m t of idles c 2) (m .waits-are .freed)))
+      pool-passes Waits ws 0 spots (m .waits-are .freed) (walk Named ws e m of idles .ws) (stage .count) (stage .marked) refl (omega arith)
+      (seg-same _ _ _ (m .waits-are .freed) 0 (m .waits-are .free .seg) (all-of (λ c. word-is Named ws e m of idles c 2) (m .waits-are .freed)))
       (omega arith) free-places (m .waits-are .free .once) free-new
-      (λ r c p i. all-places (recount (r .marked) (getD ws 13 0) (let n = all-counted Named s ws e m t of idles stage in omega arith)) c p i)
+      (λ r c p i. all-places (recount (r .marked) (getD ws 13 0) (let n = all-counted Named ws e m of idles stage in omega arith)) c p i)
 
-  rest-passes : rest-holds ws (walk Named s ws e m t of idles .ws) .is ≡ true
+  rest-passes : rest-holds ws (walk Named ws e m of idles .ws) .is ≡ true
   unfolding rest-holds used
   rest-passes =
-      let p = pending-passes Named ws e m good (walk Named s ws e m t of idles .ws) (stage .marked .has)
-      (λ c p i. subst (λ (d : ℕ). getD (walk Named s ws e m t of idles .ws) d 0 ≡ bit (stage .marked .has c)) (zero-add c) (stage .marked .marked c p i))
-      (all-made Named s ws e m t of idles stage) in
+      let p = pending-passes Named ws e m good (walk Named ws e m of idles .ws) (stage .marked .has)
+      (λ c p i. subst (λ (d : ℕ). getD (walk Named ws e m of idles .ws) d 0 ≡ bit (stage .marked .has c)) (zero-add c) (stage .marked .marked c p i))
+      (all-made Named ws e m of idles stage) in
       ap (λ (r : Left Bool). r .is) (sym (pick-true _ _ _ p refl)) ∙ pool-is
 
   -- the walk over n nets, and the rest
@@ -70,7 +70,7 @@ module _ (Named : ℕ → Name → Type 0) (s ws : List ℕ) (e : Engine) (m : M
   walked n = each-with (net-holds ws) (replicate 4097 0) 1 n
 
   all-pass : pick (walked (length (e .nets)) .is) (rest-holds ws (walked (length (e .nets)) .ws)) (says false (walked (length (e .nets)) .ws)) .is ≡ true
-  all-pass = ap (λ (r : Left Bool). r .is) (sym (pick-true _ _ _ (all-nets Named s ws e m t of idles .0) refl)) ∙ rest-passes
+  all-pass = ap (λ (r : Left Bool). r .is) (sym (pick-true _ _ _ (all-nets Named ws e m of idles .0) refl)) ∙ rest-passes
 
   -- `waits-hold` answers yes
   pub waits-pass : waits-hold ws ≡ true

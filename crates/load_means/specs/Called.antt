@@ -21,6 +21,7 @@ use Rattle.definitions.specs.State.{Engine, homes, netAt}
 use Rattle.definitions.specs.Visit.{getNet}
 use Rattle.load_laws.specs.Finds.{find-mem, find-none}
 use Rattle.means.specs.Means.{noNet}
+use Rattle.means.specs.Names.{netWord}
 use Rattle.means.specs.Frame.{HeadWords, Keep}
 use Rattle.load_means.specs.NewNet.{Spare}
 
@@ -130,11 +131,6 @@ mem-row (suc n) k i m = go (List·Memᴰ·cases-cons m) (λ q. mem-row n (suc k)
     go : (i ≡ k) ⊎ List·Memᴰ i (from (suc k) n) → (List·Memᴰ i (from (suc k) n) → (suc k ≤ i) × (i < suc k + n)) → (k ≤ i) × (i < k + suc n)
     go (inl e) f = (omega arith, omega arith)
     go (inr q) f = let r = f q in let a = r .0 in let b = r .1 in (omega arith, omega arith)
-
--- the word of the net of a name: its number and one more; 0 is none
-abbrev pub netWord : Option ℕ → ℕ
-netWord none = 0
-netWord (some k) = k + 1
 
 -- `get_net`: the words and level Engine find the same net
 pub by-name : (ws : List ℕ) (e : Engine) → Called ws (homes e) → (name : ℕ) → net-by-name ws name ≡ netWord (getNet e name)

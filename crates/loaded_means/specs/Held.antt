@@ -30,24 +30,11 @@ use Rattle.seen_means.specs.Seen.{FreePlaces}
 use Rattle.run_means.specs.Count.{LimitFits}
 use Rattle.acts_means.specs.Holds.{freePathOf, Holds}
 use Rattle.load_means.specs.Start.{Fresh}
-use Rattle.load_means.specs.Called.{netWord, called-word}
-use Rattle.graft_means.specs.Tests
+use Rattle.load_means.specs.Called.{called-word}
 use Rattle.load_nets_means.specs.Net.{Loads}
 use Rattle.load_nets_means.specs.Nets.{NetsDone}
 use Rattle.load_file_means.specs.File.{load-read-means}
 use Rattle.loaded_means.specs.Places.{load-places}
-
--- word 64 + c says which net has the name c
-abbrev pub NetNames : List ℕ → Engine → Type 0
-NetNames ws e = (c : ℕ) → c < 1024 → getD ws (64 + c) 0 ≡ netWord (getNet e c)
-
-same-word : (o : Option ℕ) → netWord o ≡ Tests.netWord o
-same-word none = refl
-same-word (some k) = refl
-
--- that is part of what holds of a run
-pub names-held : (s : List ℕ) (f : File FlatNet) (x : ℕ → ℕ) (ws : List ℕ) (e : Engine) → Holds s f x ws e → NetNames ws e
-names-held s f x ws e h c i = h .called c i ∙ sym (same-word (getNet e c))
 
 -- how a load on the words ends, by what level Engine answers
 abbrev pub LoadEnds : List ℕ → File FlatNet → Left ℕ → Result Engine → Type 0
@@ -78,7 +65,7 @@ module _ (s : List ℕ) (is : Bytes s) (f : File FlatNet) (accepted : read flat 
       places = places;
       rules = image .file .rules;
       limit = limit-fits (f .limit) (e .limit) (e .steps) (flat-write-read s is f accepted .fits .limit) (image .file .limit);
-      called = λ c i. called-word w e (l .called) c i ∙ same-word (getNet e c);
+      called = called-word w e (l .called);
     }
 
   -- the load on fresh words

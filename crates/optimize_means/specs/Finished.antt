@@ -33,15 +33,13 @@ use Rattle.reached_laws.specs.Wires.{find-true, home-at}
 use Rattle.reached_laws.specs.Image.{Image, reached-image}
 use Rattle.words.specs.Choose.{lt-split}
 use Rattle.layout.specs.Layout.{node-word, net-by-name}
+use Rattle.means.specs.Names.{netWord}
 use Rattle.held_names.specs.Named.{Stands, Named, named-stands}
 use Rattle.script_means.specs.Tries.{name-read}
 use Rattle.acts_means.specs.Holds.{Holds}
-use Rattle.load_means.specs.Called
-use Rattle.result_means.specs.Nets
 use Rattle.result_held.specs.Held.{Places}
 use Rattle.finishing.specs.Finishing.{result}
 use Rattle.finish_means.specs.Delivered.{Delivers, delivered-is}
-use Rattle.loaded_means.specs.Held.{NetNames, names-held}
 
 module _ {A : Type 0} where
   nth-there : (xs : List A) (j : ℕ) → j < length xs → (x : A) × (nth xs j ≡ some x) × List·Memᴰ x xs
@@ -56,9 +54,6 @@ module _ {A : Type 0} where
 
 module _ (s : List ℕ) (is : Bytes s) (f : File FlatNet) (accepted : read flat s ≡ ok f) (p : Pools) (fit : poolsFit p ≡ true)
     (ws : List ℕ) (e : Engine) (h : Holds s f rest ws e) (reached : Reached p f e) where
-  called : NetNames ws e
-  called = names-held s f rest ws e h
-
   image : Image p f e
   image = reached-image s is f accepted p fit reached
 
@@ -115,20 +110,16 @@ module _ (s : List ℕ) (is : Bytes s) (f : File FlatNet) (accepted : read flat 
   unfolding getNet
   name-found c k q = eqb-true (netAt e k .home .name) c (find-true (λ j. eqb (netAt e j .home .name) c) (upTo (length (e .nets))) k q)
 
-  none-high : (c : ℕ) → 1024 ≤ c → 0 ≡ Nets.netWord (getNet e c)
+  none-high : (c : ℕ) → 1024 ≤ c → 0 ≡ netWord (getNet e c)
   none-high c h = go (getNet e c) refl
     where
-      go : (o : Option ℕ) → getNet e c ≡ o → 0 ≡ Nets.netWord o
+      go : (o : Option ℕ) → getNet e c ≡ o → 0 ≡ netWord o
       go none q = refl
       go (some k) q = let l = low k (named-below e c k q) in let z = name-found c k q in absurd (omega arith)
 
-  named : (c : ℕ) → net-by-name ws c ≡ Nets.netWord (getNet e c)
+  named : (c : ℕ) → net-by-name ws c ≡ netWord (getNet e c)
   unfolding net-by-name
-  named c = lt-split c 1024 (getD ws (64 + c) 0) 0 (λ (x : ℕ). x ≡ Nets.netWord (getNet e c)) (λ h. called c h ∙ go (getNet e c)) (λ h. none-high c h)
-    where
-      go : (o : Option ℕ) → Called.netWord o ≡ Nets.netWord o
-      go none = refl
-      go (some k) = refl
+  named c = lt-split c 1024 (getD ws (64 + c) 0) 0 (λ (x : ℕ). x ≡ netWord (getNet e c)) (λ i. h .called c i) (λ i. none-high c i)
 
   -- the same bytes, or 15
   pub run-delivers : (out : List ℕ) → length out < 18446744073709551616 → Delivers ws out (result ws s out) (deliver (length out) (Finish.result f e))

@@ -1,14 +1,17 @@
 -- A net in which trees are left hanging, written with its wires renamed, on words and bytes. Document 01: "trees left in a vicious
 -- circle keep old inner wires, and are listed last by ascending wire". Level Words.
 use Prim.Native.Nat.{ℕ, zero, suc, _+_, _*_, _-_, _%_}
-use mathlib.Core.List.{List}
+use mathlib.Core.List.{List, [], _∷_}
+use lib.ListN.{replicate}
 use Rattle.words.specs.Choose.{if-eq, if-lt}
 use Rattle.net_file.specs.Write.{be}
 use Rattle.fields.specs.Fields.{byte, be16}
 use Rattle.ends.specs.Ends.{within}
 use Rattle.store.specs.Store.{store, between}
 use Rattle.wire_tables.specs.Tables.{hung, kept-left, kept-right}
-use Rattle.resolve_pass.specs.Pass.{next, hung-links}
+use Rattle.wire_blocks.specs.Blocks.{looked}
+use Rattle.wire_blocks.specs.Laws.{wiresFrom}
+use Rattle.resolve_pass.specs.Pass.{next, hung-links, marked-links}
 use Rattle.resolve_walk.specs.declared.Stepped.{Stepped}
 use Rattle.resolve_walk.specs.declared.Stepped.the-variants.{At, Deep}
 use Rattle.resolve_walk.specs.Penned.{Penned, Inked}
@@ -41,10 +44,14 @@ module _ (s : List ℕ) where
   unfoldable pub circle : List ℕ → List ℕ → ℕ → Listed → Inked Listed
   circle ws out w c = let v = hung ws w in if-eq v 0 (record { is = c; out = out }) (list-tree out v w c)
 
-  -- those on k wires from wire w on
-  unfoldable pub circles : List ℕ → ℕ → List ℕ → ℕ → Listed → Inked Listed
-  circles ws zero out w c = record { is = c; out = out }
-  circles ws (suc k) out w c = let r = circle ws out (w % 65536) c in circles ws k (r .out) (next w) (r .is)
+  -- those on some wires
+  unfoldable pub circles : List ℕ → List ℕ → List ℕ → Listed → Inked Listed
+  circles ws [] out c = record { is = c; out = out }
+  circles ws (w ∷ l) out c = let r = circle ws out (w % 65536) c in circles ws l (r .out) (r .is)
+
+  -- the wires on which trees hang marked, of the links whose count stands at a place
+  unfoldable pub marks-of : List ℕ → ℕ → List ℕ
+  marks-of ws links = marked-links ws s (within s (links + 2)) (be16 s links) (replicate 2112 0)
 
   -- below which wire all trees hang that are left, of the links whose count stands at a place: the counter, or less where it is great
   unfoldable pub left-below : List ℕ → ℕ → ℕ → ℕ
@@ -53,10 +60,17 @@ module _ (s : List ℕ) where
       let t = hung-links ws s (within s (links + 2)) n 0 in
       if-lt wires (16 * n) wires (if-lt t wires t wires)
 
+  -- what is left below there; where that is high, on the wires that are looked at by these marks
+  unfoldable pub left-circles : List ℕ → List ℕ → ℕ → ℕ → ℕ → Inked Listed
+  left-circles ws out links wires to =
+      let c : Listed = record { count = 0; to = to } in
+      let m = left-below ws links wires in
+      if-lt m (16 * be16 s links + 512) (circles ws (wiresFrom 0 m) out c) (circles ws (looked 0 (marks-of ws links) m 0) out c)
+
   -- behind the kept links: the circles, and the count of all, which stands before them
   unfoldable pub end-links : List ℕ → List ℕ → ℕ → ℕ → ℕ → ℕ → ℕ → Inked ℕ
   end-links ws out links wires kept to place =
-      let c = circles ws (left-below ws links wires) out 0 (record { count = 0; to = place }) in
+      let c = left-circles ws out links wires place in
       record { is = c .is .to; out = store to (be 2 ((kept + c .is .count) % 4294967296 % 65536)) (c .out) }
 
   -- the links: their count, the kept ones visited, then the circles

@@ -2,7 +2,9 @@
 use Prim.Native.Nat.{ℕ, zero, suc, _+_, _*_, _-_, _%_, _<_, _≤_}
 use mathlib.Core.Path.{_≡_, refl, sym, ap, _∙_}
 use mathlib.Core.List.{List}
+use native.Mathlib.Omega.{arith}
 use native.Mathlib.Nat.{not-suc-le-zero}
+use lib.ListN.{replicate}
 use native.Mathlib.Numerals.{sub-one}
 use Rattle.words.specs.Choose.{eq-yes, eq-no, lt-yes, lt-no}
 use Rattle.words.specs.Left
@@ -11,7 +13,10 @@ use Rattle.fields.specs.Fields.{byte, be16}
 use Rattle.ends.specs.Ends.{within}
 use Rattle.store.specs.Store.{store, between}
 use Rattle.wire_tables.specs.Tables.{hung, kept-left, kept-right}
-use Rattle.resolve_pass.specs.Pass.{next, hung-links}
+use Rattle.wire_blocks.specs.Blocks.{stride, looked}
+use Rattle.wire_blocks.specs.Ways.{looked-more, looked-done}
+use Rattle.wire_blocks.specs.Laws.{wiresFrom}
+use Rattle.resolve_pass.specs.Pass.{next, hung-links, marked-links}
 use Rattle.resolve_walk.specs.declared.Pen.{Pen}
 use Rattle.resolve_walk.specs.declared.Stepped.{Stepped}
 use Rattle.resolve_walk.specs.declared.Stepped.the-variants.{At, Deep}
@@ -20,7 +25,7 @@ use Rattle.resolve_walk.specs.Walk.{on, on-step, tree, trees}
 use Rattle.resolve_net.specs.declared.Listed.{Listed}
 use Rattle.resolve_net.specs.declared.Ready.{Ready}
 use Rattle.resolve_net.specs.Plain.{copy-tree, copy-link, copy-links, plain}
-use Rattle.resolve_net.specs.Renamed.{visit-link, visit-links, list-tree, circle, circles, left-below, end-links, renamed-links, renamed}
+use Rattle.resolve_net.specs.Renamed.{visit-link, visit-links, list-tree, circle, circles, marks-of, left-below, left-circles, end-links, renamed-links, renamed}
 use Rattle.resolve_net.specs.Net.{onward, wires-at, resolved}
 
 -- a contract's two equations from one, and one from two
@@ -54,16 +59,31 @@ module _ (s ws : List ℕ) where
   unfolding circle list-tree next
   circle-some out o₁ o₂ o w v p q t n c ev nz e₁ ep e₂ eq et eo en = rw (← ev) (eq-no _ _ _ _ nz (rw (← e₁, ← ep, ← e₂, ← eq, ← et, ← eo, en)))
 
-  pub circles-more : (out o : List ℕ) (w v k : ℕ) (c d : Listed) (x : Inked Listed) → circles s ws k out w c ≡ x → 0 < k → d ≡ circle s ws out (w % 65536) c .is
-      → o ≡ circle s ws out (w % 65536) c .out → v ≡ (w + 1) % 4294967296 → circles s ws (k - 1) o v d ≡ x
-  unfolding circles next
-  circles-more out o w v zero c d x g h ed eo ev = absurd (not-suc-le-zero h)
-  circles-more out o w v (suc k) c d x g h ed eo ev = rw (sub-one, ed, eo, ev) g
+  module _ (n : ℕ) where
+    pub all-begin : (out : List ℕ) (c : Listed) → circles s ws (wiresFrom 0 (n - 0)) out c ≡ circles s ws (wiresFrom 0 n) out c
+    all-begin out c = let e : n - 0 ≡ n = omega arith in rw e
 
-  pub circles-done : (out : List ℕ) (w k : ℕ) (c : Listed) (x : Inked Listed) → circles s ws k out w c ≡ x → k ≤ 0 → record { is = c; out = out } ≡ x
-  unfolding circles
-  circles-done out w zero c x g h = g
-  circles-done out w (suc k) c x g h = absurd (not-suc-le-zero h)
+    pub all-more : (out o : List ℕ) (w : ℕ) (c e : Listed) (x : Inked Listed) → circles s ws (wiresFrom w (n - w)) out c ≡ x → w < n
+        → e ≡ circle s ws out (w % 65536) c .is → o ≡ circle s ws out (w % 65536) c .out → circles s ws (wiresFrom (w + 1) (n - (w + 1))) o e ≡ x
+    unfolding circles wiresFrom
+    all-more out o w c e x g h ee eo =
+        let j : n - w ≡ suc (n - (w + 1)) = omega arith in
+        let k : w + 1 ≡ suc w = omega arith in
+        rw (ee, eo, k) (rw (j, k) at g)
+
+    pub all-done : (out : List ℕ) (w : ℕ) (c : Listed) (x : Inked Listed) → circles s ws (wiresFrom w (n - w)) out c ≡ x → n ≤ w → record { is = c; out = out } ≡ x
+    unfolding circles wiresFrom
+    all-done out w c x g h = let j : n - w ≡ 0 = omega arith in rw j at g
+
+  module _ (bs : List ℕ) (n : ℕ) where
+    pub marked-more : (out o : List ℕ) (w d : ℕ) (c e : Listed) (x : Inked Listed) → circles s ws (looked 0 bs n w) out c ≡ x → w < n
+        → e ≡ circle s ws out (w % 65536) c .is → o ≡ circle s ws out (w % 65536) c .out → d ≡ stride 0 bs w → circles s ws (looked 0 bs n (w + d)) o e ≡ x
+    unfolding circles
+    marked-more out o w d c e x g h ee eo ed = rw (ee, eo) (rw (looked-more 0 bs n w d h ed) at g)
+
+    pub marked-done : (out : List ℕ) (w : ℕ) (c : Listed) (x : Inked Listed) → circles s ws (looked 0 bs n w) out c ≡ x → n ≤ w → record { is = c; out = out } ≡ x
+    unfolding circles
+    marked-done out w c x g h = rw (looked-done 0 bs n w h) at g
 
 -- ---- kept links, visited
 
@@ -117,6 +137,18 @@ module _ (s ws : List ℕ) (links wires n : ℕ) (en : n ≡ be16 s links) where
     pub below-wires : wires ≤ t → wires ≡ left-below s ws links wires
     unfolding left-below
     below-wires h = rw (← ea, ← en, ← et) (lt-no _ _ _ _ many (lt-no _ _ _ _ h refl))
+
+module _ (s ws out o : List ℕ) (links wires n m to : ℕ) (c : Listed) (en : n ≡ be16 s links) (em : m ≡ left-below s ws links wires) where
+  pub left-all : m < 16 * n + 512 → c ≡ circles s ws (wiresFrom 0 m) out (record { count = 0; to = to }) .is
+      → o ≡ circles s ws (wiresFrom 0 m) out (record { count = 0; to = to }) .out → record { is = c; out = o } ≡ left-circles s ws out links wires to
+  unfolding left-circles
+  left-all h ec eo = rw (← em, ← en) (lt-yes _ _ _ _ h (both (circles s ws (wiresFrom 0 m) out (record { count = 0; to = to })) ec eo))
+
+  pub left-marked : (bs : List ℕ) (a : ℕ) → 16 * n + 512 ≤ m → a ≡ within s (links + 2) → bs ≡ marked-links ws s a n (replicate 2112 0)
+      → c ≡ circles s ws (looked 0 bs m 0) out (record { count = 0; to = to }) .is → o ≡ circles s ws (looked 0 bs m 0) out (record { count = 0; to = to }) .out
+      → record { is = c; out = o } ≡ left-circles s ws out links wires to
+  unfolding left-circles marks-of
+  left-marked bs a h ea eb ec eo = rw (← em, ← en, ← ea, ← eb) (lt-no _ _ _ _ h (both (circles s ws (looked 0 bs m 0) out (record { count = 0; to = to })) ec eo))
 
 module _ (s ws v out o₁ : List ℕ) (links wires kept to p : ℕ) (t : Stepped) (ep : p ≡ on to 2) (et : t ≡ visit-links s kept ws out 0 p .is)
     (ev : v ≡ visit-links s kept ws out 0 p .ws) (e₁ : o₁ ≡ visit-links s kept ws out 0 p .out) where

@@ -2,8 +2,10 @@
 use resolve_walk::Pen;
 use resolve_walk::Stepped;
 ghost use mathlib.Core.Path.{_≡_};
+ghost use Rattle.wire_blocks.specs.Blocks.{looked};
+ghost use Rattle.wire_blocks.specs.Laws.{wiresFrom};
 ghost use Rattle.resolve_net.specs.Plain.{copy-tree, copy-link, copy-links, plain};
-ghost use Rattle.resolve_net.specs.Renamed.{visit-link, visit-links, circle, circles, left-below, end-links, renamed-links, renamed};
+ghost use Rattle.resolve_net.specs.Renamed.{visit-link, visit-links, circle, circles, left-below, left-circles, end-links, renamed-links, renamed};
 ghost use Rattle.resolve_net.specs.Net.{wires-at, pass-links, prepare, onward, resolved, freed, net};
 
 // ---- as it stands
@@ -121,17 +123,28 @@ fn circle(ws: &[u32], s: &[u8], out: &mut [u8], w: u16, c: Listed) -> Listed
     }
 }
 
-// What is left in vicious circles, by ascending wire.
-fn circles(ws: &[u32], s: &[u8], out: &mut [u8], wires: u32, to: usize) -> Listed
-    ensures { λ r. ⌜ (r ≡ circles (now (s .entry)) (now (ws .entry)) wires (now (out .entry)) 0 (record { count = 0; to = to }) .is) × (now (out .exit) ≡ circles (now (s .entry)) (now (ws .entry)) wires (now (out .entry)) 0 (record { count = 0; to = to }) .out) ⌝ }
+// What is left in vicious circles, by ascending wire: each wire below a given one is looked at.
+fn all_circles(ws: &[u32], s: &[u8], out: &mut [u8], wires: u32, to: usize) -> Listed
+    ensures { λ r. ⌜ (r ≡ circles (now (s .entry)) (now (ws .entry)) (wiresFrom 0 wires) (now (out .entry)) (record { count = 0; to = to }) .is) × (now (out .exit) ≡ circles (now (s .entry)) (now (ws .entry)) (wiresFrom 0 wires) (now (out .entry)) (record { count = 0; to = to }) .out) ⌝ }
 {
     let mut w: u32 = 0;
-    let mut k = wires;
     let mut c = Listed { count: 0, to };
-    while 0 < k {
+    while w < wires {
         c = circle(ws, s, out, (w % 65536) as u16, c);
-        w = std::num::wrapping_add_u32(w, 1);
-        k -= 1;
+        w += 1;
+    }
+    c
+}
+
+// The same, with those looked at that are not passed over by these marks.
+fn marked_circles(ws: &[u32], s: &[u8], out: &mut [u8], bs: &[u32], wires: u32, to: usize) -> Listed
+    ensures { λ r. ⌜ (r ≡ circles (now (s .entry)) (now (ws .entry)) (looked 0 (now (bs .entry)) wires 0) (now (out .entry)) (record { count = 0; to = to }) .is) × (now (out .exit) ≡ circles (now (s .entry)) (now (ws .entry)) (looked 0 (now (bs .entry)) wires 0) (now (out .entry)) (record { count = 0; to = to }) .out) ⌝ }
+{
+    let mut w: usize = 0;
+    let mut c = Listed { count: 0, to };
+    while w < wires as usize {
+        c = circle(ws, s, out, (w % 65536) as u16, c);
+        w += wire_blocks::stride(bs, 0, w as u32) as usize;
     }
     c
 }
@@ -153,6 +166,21 @@ fn left_below(ws: &[u32], s: &[u8], links: usize, wires: u32) -> u32
     wires
 }
 
+// What is left in vicious circles, of the links whose count stands at a place. Where it may hang so high that to look at each wire below
+// would take longer than to look at the links, the wires on which trees hang are marked.
+fn left_circles(ws: &[u32], s: &[u8], out: &mut [u8], links: usize, wires: u32, to: usize) -> Listed
+    ensures { λ r. ⌜ (r ≡ left-circles (now (s .entry)) (now (ws .entry)) (now (out .entry)) links wires to .is) × (now (out .exit) ≡ left-circles (now (s .entry)) (now (ws .entry)) (now (out .entry)) links wires to .out) ⌝ }
+{
+    let n = fields::be16(s, links) as u32;
+    let below = left_below(ws, s, links, wires);
+    if below < 16 * n + 512 {
+        return all_circles(ws, s, out, below, to);
+    }
+    let mut bs = [0u32; wire_blocks::MARKS];
+    resolve_pass::mark_links(ws, s, ends::on(s, links, 2), n, &mut bs);
+    marked_circles(ws, s, out, &bs, below, to)
+}
+
 // Behind the kept links: the circles, and the count of all, which stands before them; the place behind.
 fn end_links(
     ws: &[u32],
@@ -166,8 +194,7 @@ fn end_links(
 ) -> usize
     ensures { λ r. ⌜ (r ≡ end-links (now (s .entry)) (now (ws .entry)) (now (out .entry)) links wires kept to place .is) × (now (out .exit) ≡ end-links (now (s .entry)) (now (ws .entry)) (now (out .entry)) links wires kept to place .out) ⌝ }
 {
-    let below = left_below(ws, s, links, wires);
-    let c = circles(ws, s, out, below, place);
+    let c = left_circles(ws, s, out, links, wires, place);
     let n = std::num::wrapping_add_u32(kept, c.count);
     store::store16(out, to, (n % 65536) as u16);
     c.to

@@ -14,6 +14,8 @@ use Rattle.conversions.specs.Links.{get}
 use Rattle.store.specs.Store.{store, store-none}
 use Rattle.wire_tables.specs.Tables.{hung}
 use Rattle.wire_tables_laws.specs.Table.{Said, Table}
+use Rattle.wire_blocks.specs.Laws.{wiresFrom, Less, both, less}
+use Rattle.wire_blocks.specs.Laws
 use Rattle.resolve_pass.specs.Pass.{next}
 use Rattle.resolve_walk.specs.Penned.{Inked}
 use Rattle.resolve_walk.specs.Walk.{on}
@@ -114,42 +116,54 @@ module _ (s : List ℕ) (n : ℕ) (ws : List ℕ) (es : List (ℕ × Tree)) (few
   found-most w none = omega arith
   found-most w (some t) = omega arith
 
-  circles-step : (k : ℕ) (out : List ℕ) (w : ℕ) (c : Listed) → w < 65536
-      → circles s ws (suc k) out w c ≡ circles s ws k (code.circle s ws out w c .out) (suc w) (code.circle s ws out w c .is)
-  unfolding circles next
-  circles-step k out w c l =
-      let a : w % 65536 ≡ w = omega arith in
-      let b : (w + 1) % 4294967296 ≡ suc w = omega arith in
-      rw (a, b)
-
-  circles-end : (out : List ℕ) (w : ℕ) (c : Listed) → circles s ws 0 out w c ≡ record { is = c; out = out }
+  circles-step : (l : List ℕ) (out : List ℕ) (w : ℕ) (c : Listed) → w < 65536
+      → circles s ws (w ∷ l) out c ≡ circles s ws l (code.circle s ws out w c .out) (code.circle s ws out w c .is)
   unfolding circles
-  circles-end out w c = refl
+  circles-step l out w c h = let a : w % 65536 ≡ w = omega arith in rw a
 
-  -- where nothing is left on the last wires, they need not be looked at
-  circles-none : (k : ℕ) (out : List ℕ) (w : ℕ) (c : Listed) → w + k ≤ 65536 → ((v : ℕ) → w ≤ v → v < w + k → hung ws v ≡ 0) → circles s ws k out w c ≡ record { is = c; out = out }
-  unfolding code.circle
-  circles-none zero out w c l z = circles-end out w c
-  circles-none (suc k) out w c l z =
-      let e : record { is = c; out = out } ≡ code.circle s ws out w c = eq-yes (hung ws w) 0 _ _ (z w (omega arith) (omega arith)) refl in
-      rw (circles-step k out w c (omega arith), ← e) (circles-none k out (suc w) c (omega arith) (λ v h i. z v (omega arith) (omega arith)))
+  circles-end : (out : List ℕ) (c : Listed) → circles s ws [] out c ≡ record { is = c; out = out }
+  unfolding circles
+  circles-end out c = refl
 
-  pub circles-less : (m k : ℕ) (out : List ℕ) (w : ℕ) (c : Listed) → m ≤ k → w + k ≤ 65536 → ((v : ℕ) → w + m ≤ v → v < w + k → hung ws v ≡ 0)
-      → circles s ws m out w c ≡ circles s ws k out w c
-  circles-less zero k out w c h l z = circles-end out w c ∙ sym (circles-none k out w c l (λ v i j. z v (omega arith) j))
-  circles-less (suc m) zero out w c h l z = absurd (omega arith)
-  circles-less (suc m) (suc k) out w c h l z =
-      rw (circles-step m out w c (omega arith), circles-step k out w c (omega arith))
-      (circles-less m k _ (suc w) _ (omega arith) (omega arith) (λ v i j. z v (omega arith) (omega arith)))
-
-  pub circles-list : (k : ℕ) (out : List ℕ) (w : ℕ) (c : Listed) → w + k ≤ n → c .to ≤ most → c .count ≤ w → Lists out c (ascending es w k) (circles s ws k out w c)
-  unfolding ascending
-  circles-list zero out w c l low f = rw (circles-end out w c) (lists-none out c low)
+  pub circles-list : (k : ℕ) (out : List ℕ) (w : ℕ) (c : Listed) → w + k ≤ n → c .to ≤ most → c .count ≤ w → Lists out c (ascending es w k) (circles s ws (wiresFrom w k) out c)
+  unfolding ascending wiresFrom
+  circles-list zero out w c l low f = rw (circles-end out c) (lists-none out c low)
   circles-list (suc k) out w c l low f =
       let x = code.circle s ws out w c in
       let a = circle-lists w (get es w) (table .says w (omega arith)) out c low (omega arith) in
       let ca = a .count in
       let lx : x .is .to ≤ most = rw (a .is) (on-most (c .to) low (length (bytesOf (found w (get es w) [])))) in
-      rw (circles-step k out w c (omega arith), ← found-append w (get es w) (ascending es (suc w) k))
-      (lists-then out c (found w (get es w) []) (ascending es (suc w) k) x (circles s ws k (x .out) (suc w) (x .is)) low a
+      rw (circles-step (wiresFrom (suc w) k) out w c (omega arith), ← found-append w (get es w) (ascending es (suc w) k))
+      (lists-then out c (found w (get es w) []) (ascending es (suc w) k) x (circles s ws (wiresFrom (suc w) k) (x .out) (x .is)) low a
       (circles-list k (x .out) (suc w) (x .is) (omega arith) lx (omega (arith, found-most w (get es w)))))
+
+-- wires on which nothing is left need not be looked at
+abbrev pub Bare : List ℕ → ℕ → Type 0
+Bare ws v = hung ws (v % 65536) ≡ 0
+
+module _ (s ws : List ℕ) where
+  bare-none : (l out : List ℕ) (w : ℕ) (c : Listed) → Bare ws w → circles s ws l out c ≡ circles s ws (w ∷ l) out c
+  unfolding circles code.circle
+  bare-none l out w c z = let e : record { is = c; out = out } ≡ code.circle s ws out (w % 65536) c = eq-yes _ _ _ _ z refl in rw (← e)
+
+  bare-both : (l m : List ℕ) (w : ℕ) → ((out : List ℕ) (c : Listed) → circles s ws l out c ≡ circles s ws m out c) → (out : List ℕ) (c : Listed)
+      → circles s ws (w ∷ l) out c ≡ circles s ws (w ∷ m) out c
+  unfolding circles
+  bare-both l m w h out c = h _ _
+
+  pub circles-less : {l m : List ℕ} → Less (Bare ws) l m → (out : List ℕ) (c : Listed) → circles s ws l out c ≡ circles s ws m out c
+  circles-less Laws.none out c = refl
+  circles-less (both t) out c = bare-both _ _ _ (circles-less t) out c
+  circles-less (less z t) out c = circles-less t out c ∙ bare-none _ out _ c z
+
+  -- none of those from a wire on
+  less-rest : (w k : ℕ) → ((v : ℕ) → w ≤ v → v < w + k → Bare ws v) → Less (Bare ws) [] (wiresFrom w k)
+  unfolding wiresFrom
+  less-rest w zero z = Laws.none
+  less-rest w (suc k) z = less (z w (omega arith) (omega arith)) (less-rest (suc w) k (λ v i j. z v (omega arith) (omega arith)))
+
+  pub less-upto : (m k w : ℕ) → m ≤ k → ((v : ℕ) → w + m ≤ v → v < w + k → Bare ws v) → Less (Bare ws) (wiresFrom w m) (wiresFrom w k)
+  unfolding wiresFrom
+  less-upto zero k w h z = less-rest w k (λ v i j. z v (omega arith) j)
+  less-upto (suc m) zero w h z = absurd (omega arith)
+  less-upto (suc m) (suc k) w h z = both (less-upto m k (suc w) (omega arith) (λ v i j. z v (omega arith) (omega arith)))

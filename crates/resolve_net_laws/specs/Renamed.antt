@@ -19,7 +19,7 @@ use Rattle.resolve_walk.specs.declared.Stepped.the-variants.{At, Deep}
 use Rattle.resolve_walk.specs.Penned.{Penned, Inked}
 use Rattle.resolve_walk.specs.Walk.{on, on-step}
 use Rattle.resolve_walk.specs.Walk as code
-use Rattle.resolve_net.specs.Renamed.{visit-links, left-below, end-links, renamed-links, renamed}
+use Rattle.resolve_net.specs.Renamed.{visit-links, end-links, renamed-links, renamed}
 use Rattle.resolve_laws.specs.Walk.{walkAll, walk, cut}
 use Rattle.resolve_laws.specs.Keys.{Keys}
 use Rattle.resolve_laws.specs.Kept.{Low}
@@ -35,7 +35,7 @@ use Rattle.resolve_net_laws.specs.Lies.{front, NetLies, net-bytes}
 use Rattle.net_file_laws.specs.Bytes.{Bytes}
 use Rattle.wire_tables.specs.Tables.{hung}
 use Rattle.resolve_net_laws.specs.Only.{Only, visited-only, frees-only}
-use Rattle.resolve_net_laws.specs.Touched.{Mine, none-above}
+use Rattle.resolve_net_laws.specs.Touched.{Seen, Mine, none-unseen}
 use Rattle.resolve_net_laws.specs.Ways.{allLinks, linkBytes, links-ended}
 
 -- ---- the links
@@ -59,9 +59,9 @@ module _ (s : List ℕ) (n : ℕ) (few : n ≤ 65536) (ws out : List ℕ) (to : 
   LinksAre none x = x .is ≡ Deep
   LinksAre (some q) x = Wrote s n ws out 0 to (linkBytes s n few q) (q .1) x
 
-  -- on no wire above those of the links at `at` on which one does hangs a tree that is left
+  -- on no wire that is not looked at for the links at `at` hangs a tree that is left
   abbrev None : Type 0
-  None = (v : ℕ) → v < n → left-below s (visited .ws) at n ≤ v → hung (visited .ws) v ≡ 0
+  None = (v : ℕ) → v < n → (Seen s (visited .ws) at n v → ⊥) → hung (visited .ws) v ≡ 0
 
   links-out : (b : Bool) (v : List (Tree × Tree) × Hung) → Keys (v .1 .trees) → Low n (v .1 .trees) → length ls + length (sorted (v .1 .trees)) ≤ 65535 → None
       → LinksOut s n few ws out (on to 2) (length ls) (cut b v) visited → LinksAre (cut b v) (renamed-links s ws out at n (length ls) to)
@@ -169,10 +169,10 @@ module _ (s : List ℕ) (m : TreeNet) (at p : ℕ) (k : NetLies s m at p) (ws ou
         stored = λ room small. w₂ .stored (rw bytes room) small ∙ ap (λ bs. store to bs out) bytes;
       }
 
-  nothing-above : (q v : ℕ) → v < n → left-below s (visit-links s (length ls) (frees .ws) (frees .out) 0 (on q 2) .ws) p n ≤ v → hung (visit-links s (length ls) (frees .ws) (frees .out) 0 (on q 2) .ws) v ≡ 0
-  nothing-above q v h l =
+  nothing-unseen : (q v : ℕ) → v < n → (Seen s (visit-links s (length ls) (frees .ws) (frees .out) 0 (on q 2) .ws) p n v → ⊥) → hung (visit-links s (length ls) (frees .ws) (frees .out) 0 (on q 2) .ws) v ≡ 0
+  nothing-unseen q v h l =
       let o = visited-only (Mine s bytes at) s (length ls) (frees .ws) (frees .out) 0 (on q 2) (frees-only (Mine s bytes at) s (length (m .free)) ws (store to (front m) out) (at + 8) (on to 8) mine) in
-      none-above s bytes at _ n v (k .few) o h (rw (k .place) l)
+      none-unseen s bytes at _ n v (k .few) o h (rw (k .place) l)
 
   pub renamed-is : (a b : Bool) (u : Trees × Hung) (v : List (Tree × Tree) × Hung) → walkAll (walk 64) (trees (m .free)) h ≡ cut a u → walkLinks 64 ls (u .1) ≡ cut b v
       → Keys (v .1 .trees) → Low n (v .1 .trees) → length ls + length (sorted (v .1 .trees)) ≤ 65535
@@ -186,5 +186,5 @@ module _ (s : List ℕ) (m : TreeNet) (at p : ℕ) (k : NetLies s m at p) (ws ou
       let q = on (on to 8) (length (writeTrees (u .0))) in
       let lq = on-most (on to 8) (on-most to low 8) (length (writeTrees (u .0))) in
       let x = renamed-links s (frees .ws) (frees .out) p n (length ls) q in
-      let g = links-are s n (k .few) (frees .ws) (frees .out) q lq ls p (u .1) b v (kept-frame s n (k .few) ws (frees .ws) 0 ls (w .frame) kept) (w .meant) eb keys below fewer (nothing-above q) in
+      let g = links-are s n (k .few) (frees .ws) (frees .out) q lq ls p (u .1) b v (kept-frame s n (k .few) ws (frees .ws) 0 ls (w .frame) kept) (w .meant) eb keys below fewer (nothing-unseen q) in
       rw (renamed-as, step-on (λ j. renamed-links s (frees .ws) (frees .out) p n (length ls) j) free-end q (w .is), eb) (links-whole u b v x (o .1) w g)

@@ -24,8 +24,9 @@ use Rattle.resolve_walk.specs.Walk as code
 use Rattle.resolve_net.specs.Plain.{copy-links, plain}
 use Rattle.words.specs.Choose.{lt-split}
 use Rattle.wire_tables.specs.Tables.{hung}
+use Rattle.wire_blocks.specs.Laws.{wiresFrom, looked-less}
 use Rattle.resolve_net.specs.declared.Listed.{Listed}
-use Rattle.resolve_net.specs.Renamed.{visit-links, circles, left-below, end-links, renamed-links, renamed}
+use Rattle.resolve_net.specs.Renamed.{visit-links, circles, marks-of, left-below, left-circles, end-links, renamed-links, renamed}
 use Rattle.resolve_laws.specs.Walk.{walkAll, walk}
 use Rattle.resolve_laws.specs.Keys.{Keys}
 use Rattle.resolve_laws.specs.Kept.{Low}
@@ -38,7 +39,8 @@ use Rattle.resolve_walk_laws.specs.Trees.{Wrote, wrote-then, Outcomes, trees-wa
 use Rattle.resolve_pass_laws.specs.Keeping.{KeptFrom}
 use Rattle.resolve_net_laws.specs.Copied.{Holds, between-is, Put, put-then, copies}
 use Rattle.resolve_net_laws.specs.Visited.{kept-frame, LinksOut, links-visit}
-use Rattle.resolve_net_laws.specs.Circles.{bytesOf, Lists, circles-less, circles-list}
+use Rattle.resolve_net_laws.specs.Circles.{bytesOf, Lists, circles-list, Bare, circles-less, less-upto}
+use Rattle.resolve_net_laws.specs.Touched.{Seen}
 use Rattle.resolve_net_laws.specs.Lies.{front, upto, NetLies, net-bytes}
 
 -- ---- as it stands
@@ -121,20 +123,28 @@ module _ (s : List ℕ) (n : ℕ) (few : n ≤ 65536) where
   -- where the links have been visited: the circles behind them, and the count before
   module _ (ws out : List ℕ) (to : ℕ) (low : to ≤ most) (q : List (Tree × Tree) × Hung) (r : Penned Stepped) (w : Wrote s n ws out 0 (on to 2) (concatMap writeLink (q .0)) (q .1) r)
       (keys : Keys (q .1 .trees)) (below : Low n (q .1 .trees)) (fewer : length (q .0) + length (sorted (q .1 .trees)) ≤ 65535) (links : ℕ)
-      (nothing : (v : ℕ) → v < n → left-below s (r .ws) links n ≤ v → hung (r .ws) v ≡ 0) where
+      (nothing : (v : ℕ) → v < n → (Seen s (r .ws) links n v → ⊥) → hung (r .ws) v ≡ 0) where
     abbrev pub place : ℕ
     place = on (on to 2) (length (concatMap writeLink (q .0)))
 
     abbrev pub ended : Inked ℕ
     ended = end-links s (r .ws) (r .out) links n (length (q .0)) to place
 
-    -- the wires above those on which trees are left
-    all-circles : (c : Listed) → circles s (r .ws) (left-below s (r .ws) links n) (r .out) 0 c ≡ circles s (r .ws) n (r .out) 0 c
-    all-circles c =
-        let l = left-most (r .ws) links in
-        circles-less s n (r .ws) (q .1 .trees) few (w .meant .trees) (left-below s (r .ws) links n) n (r .out) 0 c l (omega arith) (λ v h i. nothing v (omega arith) (omega arith))
+    -- nothing is left on a wire that is not looked at
+    bare : (v : ℕ) → v < n → (Seen s (r .ws) links n v → ⊥) → Bare (r .ws) v
+    bare v h u = let e : v % 65536 ≡ v = omega arith in rw e (nothing v h u)
 
-    listed-circles : Lists (r .out) (record { count = 0; to = place }) (sorted (q .1 .trees)) (circles s (r .ws) n (r .out) 0 (record { count = 0; to = place }))
+    all-circles : left-circles s (r .ws) (r .out) links n place ≡ circles s (r .ws) (wiresFrom 0 n) (r .out) (record { count = 0; to = place })
+    unfolding left-circles
+    all-circles =
+        let c : Listed = record { count = 0; to = place } in
+        let m = left-below s (r .ws) links n in
+        let l = left-most (r .ws) links in
+        let e = circles-less s (r .ws) (less-upto s (r .ws) m n 0 l (λ v i j. bare v (omega arith) (λ x. let y = x .0 in absurd (omega arith)))) (r .out) c in
+        lt-split _ _ _ _ (λ (x : Inked Listed). x ≡ circles s (r .ws) (wiresFrom 0 n) (r .out) c) (λ h. e)
+        (λ h. circles-less s (r .ws) (looked-less 0 (marks-of s (r .ws) links) m (Bare (r .ws)) (λ v i z. bare v (omega arith) (λ x. x .1 .0 z)) (λ v i z. bare v (omega arith) (λ x. x .1 .1 z))) (r .out) c ∙ e)
+
+    listed-circles : Lists (r .out) (record { count = 0; to = place }) (sorted (q .1 .trees)) (circles s (r .ws) (wiresFrom 0 n) (r .out) (record { count = 0; to = place }))
     listed-circles =
         rw (sorted-is (q .1 .trees) n keys below)
         (circles-list s n (r .ws) (q .1 .trees) few (w .meant .trees) n (r .out) 0 (record { count = 0; to = place }) (omega arith) (on-most (on to 2) (on-most to low 2) (length (concatMap writeLink (q .0)))) (omega arith))
@@ -151,9 +161,9 @@ module _ (s : List ℕ) (n : ℕ) (few : n ≤ 65536) where
         let b₂ = length-be 2 (length (allLinks q)) in
         let body : concatMap writeLink (allLinks q) ≡ xs ++ ys = concat-links (q .0) (map circle (sorted (q .1 .trees))) ∙ ap (λ bs. xs ++ bs) (circle-bytes (sorted (q .1 .trees))) in
         let lb : length (linkBytes q) ≡ 2 + (length xs + length ys) = length-append (be 2 (length (allLinks q))) (concatMap writeLink (allLinks q)) ∙ rw (b₂, body, length-append xs ys) in
-        let num : (length (q .0) + circles s (r .ws) n (r .out) 0 (record { count = 0; to = place }) .is .count) % 4294967296 % 65536 ≡ length (allLinks q) = omega arith in
+        let num : (length (q .0) + circles s (r .ws) (wiresFrom 0 n) (r .out) (record { count = 0; to = place }) .is .count) % 4294967296 % 65536 ≡ length (allLinks q) = omega arith in
         record {
-          is = ap (λ (x : Inked Listed). x .is .to) (all-circles (record { count = 0; to = place })) ∙ c .is ∙ on-on (on to 2) t₂ (length xs) (length ys) ∙ on-on to low 2 (length xs + length ys) ∙ ap (on to) (sym lb);
+          is = ap (λ (x : Inked Listed). x .is .to) all-circles ∙ c .is ∙ on-on (on to 2) t₂ (length xs) (length ys) ∙ on-on to low 2 (length xs + length ys) ∙ ap (on to) (sym lb);
           stored = λ room small.
               let o₂ : on to 2 ≡ to + 2 = on-fits to low 2 (length out) (omega arith) small in
               let e₁ : r .out ≡ store (on to 2) xs out = w .stored (omega arith) small in
@@ -165,5 +175,5 @@ module _ (s : List ℕ) (n : ℕ) (few : n ≤ 65536) where
               let at₂ : to + length (be 2 (length (allLinks q))) ≡ on to 2 = omega arith in
               let e₄ : store to (be 2 (length (allLinks q))) (store (on to 2) (xs ++ ys) out) ≡ store to (be 2 (length (allLinks q)) ++ (xs ++ ys)) out =
               rw at₂ at (store-front out to (be 2 (length (allLinks q))) (xs ++ ys) (omega arith)) in
-              rw (all-circles (record { count = 0; to = place }), num, e₂, pl, e₁, e₃, e₄, body);
+              rw (all-circles, num, e₂, pl, e₁, e₃, e₄, body);
         }

@@ -9,6 +9,7 @@ use Rattle.ends.specs.Ends.{on}
 use Rattle.scan_tree.specs.Count.{endFrom}
 use Rattle.wire_tables.specs.Tables.{link, unlink, smaller, hung, hang, freed}
 use Rattle.wire_tables.specs.Tables
+use Rattle.wire_blocks.specs.Blocks.{marked}
 use Rattle.resolve_pass.specs.declared.Passed.{Passed}
 
 -- ---- places
@@ -48,6 +49,18 @@ hung-tree ws s at t = if-eq (byte s at) 0 (over ws (wire-at s at) t) t
 unfoldable pub hung-links : List ℕ → List ℕ → ℕ → ℕ → ℕ → ℕ
 hung-links ws s at zero t = t
 hung-links ws s at (suc k) t = let b = tree-end s at in hung-links ws s (tree-end s b) k (hung-tree ws s b (hung-tree ws s at t))
+
+-- wire w is marked where a tree hangs on it
+unfoldable pub mark-wire : List ℕ → ℕ → List ℕ → List ℕ
+mark-wire ws w bs = if-eq (hung ws w) 0 bs (marked 0 bs w)
+
+unfoldable pub mark-tree : List ℕ → List ℕ → ℕ → List ℕ → List ℕ
+mark-tree ws s at bs = if-eq (byte s at) 0 (mark-wire ws (wire-at s at) bs) bs
+
+-- those of k links
+unfoldable pub marked-links : List ℕ → List ℕ → ℕ → ℕ → List ℕ → List ℕ
+marked-links ws s at zero bs = bs
+marked-links ws s at (suc k) bs = let b = tree-end s at in marked-links ws s (tree-end s b) k (mark-tree ws s b (mark-tree ws s at bs))
 
 -- ---- the wires of links, freed
 

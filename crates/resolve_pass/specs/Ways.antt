@@ -15,8 +15,9 @@ use Rattle.scan_tree.specs.declared.Scan.{Scan}
 use Rattle.scan_tree.specs.Scan.{fit, begin, begin-room, fit-most, step-wire}
 use Rattle.scan_tree.specs.Count.{Runs, runs-begin, runs-more, runs-past, runs-end}
 use Rattle.wire_tables.specs.Tables.{link, unlink, smaller, hung, hang, freed}
+use Rattle.wire_blocks.specs.Blocks.{marked}
 use Rattle.resolve_pass.specs.declared.Passed.{Passed}
-use Rattle.resolve_pass.specs.Pass.{wire-at, tree-end, place, link-wires, wire-links, over, hung-tree, hung-links, free-tree, free-links, next, less, add-kept, meet, pass-link, pass}
+use Rattle.resolve_pass.specs.Pass.{wire-at, tree-end, place, link-wires, wire-links, over, hung-tree, hung-links, mark-wire, mark-tree, marked-links, free-tree, free-links, next, less, add-kept, meet, pass-link, pass}
 
 -- a wire ends three bytes on
 module _ (s : List ℕ) (at x : ℕ) (h : at < length s) (ex : x ≡ byte s at) (z : x ≡ 0) where
@@ -99,6 +100,35 @@ pub hung-done : (ws s : List ℕ) (at k t x : ℕ) → hung-links ws s at k t �
 unfolding hung-links
 hung-done ws s at zero t x g h = g
 hung-done ws s at (suc k) t x g h = absurd (not-suc-le-zero h)
+
+module _ (ws bs : List ℕ) (w v : ℕ) (ev : v ≡ hung ws w) where
+  pub mark-none : v ≡ 0 → bs ≡ mark-wire ws w bs
+  unfolding mark-wire
+  mark-none z = rw (← ev) (eq-yes _ _ _ _ z refl)
+
+  pub mark-some : (cs : List ℕ) → (v ≡ 0 → ⊥) → cs ≡ marked 0 bs w → cs ≡ mark-wire ws w bs
+  unfolding mark-wire
+  mark-some cs n ec = rw (← ev) (eq-no _ _ _ _ n ec)
+
+module _ (ws s bs : List ℕ) (at x : ℕ) (ex : x ≡ byte s at) where
+  pub mark-node : (x ≡ 0 → ⊥) → bs ≡ mark-tree ws s at bs
+  unfolding mark-tree
+  mark-node n = rw (← ex) (eq-no _ _ _ _ n refl)
+
+  pub mark-one : (w : ℕ) (cs : List ℕ) → x ≡ 0 → w ≡ wire-at s at → cs ≡ mark-wire ws w bs → cs ≡ mark-tree ws s at bs
+  unfolding mark-tree
+  mark-one w cs z ew ec = rw (← ex) (eq-yes _ _ _ _ z (rw (← ew) ec))
+
+pub mark-more : (ws s bs cs ds : List ℕ) (at b e k : ℕ) (x : List ℕ) → marked-links ws s at k bs ≡ x → 0 < k → b ≡ tree-end s at → cs ≡ mark-tree ws s at bs
+    → ds ≡ mark-tree ws s b cs → e ≡ tree-end s b → marked-links ws s e (k - 1) ds ≡ x
+unfolding marked-links
+mark-more ws s bs cs ds at b e zero x g h eb ec ed ee = absurd (not-suc-le-zero h)
+mark-more ws s bs cs ds at b e (suc k) x g h eb ec ed ee = rw (sub-one, ee, ed, ec, eb) g
+
+pub mark-done : (ws s bs : List ℕ) (at k : ℕ) (x : List ℕ) → marked-links ws s at k bs ≡ x → k ≤ 0 → bs ≡ x
+unfolding marked-links
+mark-done ws s bs at zero x g h = g
+mark-done ws s bs at (suc k) x g h = absurd (not-suc-le-zero h)
 
 pub free-node : (ws s : List ℕ) (at x : ℕ) → x ≡ byte s at → (x ≡ 0 → ⊥) → ws ≡ free-tree ws s at
 unfolding free-tree

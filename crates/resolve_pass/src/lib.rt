@@ -1,6 +1,6 @@
 // The two passes of `resolve_links` over the links of a stored tree net: the links of two wires, then the trees that hang on wires.
 ghost use mathlib.Core.Path.{_≡_};
-ghost use Rattle.resolve_pass.specs.Pass.{wire-at, tree-end, link-wires, wire-links, over, hung-tree, hung-links, free-tree, free-links, place, next, less, add-kept, meet, pass-link, pass};
+ghost use Rattle.resolve_pass.specs.Pass.{wire-at, tree-end, link-wires, wire-links, over, hung-tree, hung-links, mark-wire, mark-tree, marked-links, free-tree, free-links, place, next, less, add-kept, meet, pass-link, pass};
 
 // How many links are kept, and on how many wires a tree hangs.
 pub struct Passed {
@@ -105,6 +105,40 @@ pub fn hung_links(ws: &[u32], s: &[u8], from: usize, n: u32) -> u32
         k -= 1;
     }
     t
+}
+
+// Wire w is marked where a tree hangs on it.
+fn mark_wire(ws: &[u32], w: u16, bs: &mut [u32])
+    ensures { λ _. ⌜ now (bs .exit) ≡ mark-wire (now (ws .entry)) w (now (bs .entry)) ⌝ }
+{
+    let v = wire_tables::hung(ws, w);
+    if v == 0 {
+        return;
+    }
+    wire_blocks::mark(bs, 0, w)
+}
+
+fn mark_tree(ws: &[u32], s: &[u8], at: usize, bs: &mut [u32])
+    ensures { λ _. ⌜ now (bs .exit) ≡ mark-tree (now (ws .entry)) (now (s .entry)) at (now (bs .entry)) ⌝ }
+{
+    if fields::byte(s, at) == 0 {
+        mark_wire(ws, wire_at(s, at), bs)
+    }
+}
+
+// Those of n links, so that only they and the wires near them need be looked at.
+pub fn mark_links(ws: &[u32], s: &[u8], from: usize, n: u32, bs: &mut [u32])
+    ensures { λ _. ⌜ now (bs .exit) ≡ marked-links (now (ws .entry)) (now (s .entry)) from n (now (bs .entry)) ⌝ }
+{
+    let mut at = from;
+    let mut k = n;
+    while 0 < k {
+        let b = tree_end(s, at);
+        mark_tree(ws, s, at, bs);
+        mark_tree(ws, s, b, bs);
+        at = tree_end(s, b);
+        k -= 1;
+    }
 }
 
 // ---- the wires of links, freed

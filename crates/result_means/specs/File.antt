@@ -38,7 +38,8 @@ use Rattle.wires_means.specs.Rows.{be-two}
 use Rattle.wires_means.specs.Stores.{length-store, store-then, store-apart}
 use Rattle.nodes_written.specs.Whole.{whole-first}
 use Rattle.result_means.specs.Net.{Writable}
-use Rattle.result_means.specs.Nets.{netWord, Done, Due, write-nets-is}
+use Rattle.means.specs.Names.{netWord}
+use Rattle.result_means.specs.Nets.{Done, Due, write-nets-is}
 
 -- ---- the head
 

@@ -38,12 +38,8 @@ use Rattle.measure_means.specs.Nets.{Follows, anew, kept, finish-anew, finish-k
 use Rattle.wires_means.specs.Stores.{length-store, store-then}
 use Rattle.nodes_written.specs.Entries.{OutRegion}
 use Rattle.nodes_written.specs.Whole.{Of, Whole, whole-next}
+use Rattle.means.specs.Names.{netWord}
 use Rattle.result_means.specs.Net.{Writable, NetDone, write-included-is}
-
--- the word that says which net has a name
-abbrev pub netWord : Option ℕ → ℕ
-netWord none = 0
-netWord (some k) = k + 1
 
 -- bytes are written at a place, and the next place is after them
 pub record Done (bytes out : List ℕ) (at : ℕ) (x : Wrote ℕ) : Type 0 where

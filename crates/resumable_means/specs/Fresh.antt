@@ -4,7 +4,7 @@ use mathlib.Core.Path.{_≡_, refl, sym, ap, _∙_}
 use mathlib.Core.Logic.{inl}
 use mathlib.Core.Bool.{Bool, true, false, false≢true}
 use mathlib.Core.Option.{Option, none, some}
-use mathlib.Core.List.{List, List·Memᴰ·not-nil}
+use mathlib.Core.List.{List}
 use native.Mathlib.Nat.{not-suc-le-zero}
 use native.Mathlib.Omega.{arith}
 use lib.ListN.{length, getD, replicate}
@@ -33,7 +33,4 @@ fresh-tidy s ws p f h one long = record {
   names = λ n l. inl (sym (lt-yes n 1024 _ _ l (sym (h .clear (64 + n) (omega arith) (omega arith)))));
   free-at = λ k l. absurd (not-suc-le-zero l);
   free-only = λ k n y z. absurd (false≢true (sym (none-held (p .nodes) k n) ∙ y));
-  listed = λ k n i. absurd (List·Memᴰ·not-nil i);
-  dirtied = λ n i. absurd (List·Memᴰ·not-nil i);
-  waiting = λ k w i. absurd (List·Memᴰ·not-nil i);
 }

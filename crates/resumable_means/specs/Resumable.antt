@@ -4,7 +4,7 @@ use Prim.Native.Nat.{ℕ, _<_, _≤_}
 use mathlib.Core.Path.{_≡_, refl, sym, ap, _∙_, subst}
 use mathlib.Core.Bool.{Bool, true}
 use mathlib.Core.Option.{Option, some}
-use mathlib.Core.List.{List, map, List·Memᴰ}
+use mathlib.Core.List.{List, map}
 use native.Mathlib.Omega.{arith}
 use lib.ListN.{length, take, length-map, length-take}
 use Rattle.net_file.specs.Lists.{Result, ok}
@@ -16,9 +16,10 @@ use Rattle.net_check.specs.Verdict.{verdict}
 use Rattle.layout.specs.Layout.{file-length}
 use Rattle.definitions.specs.Lists.{nth}
 use Rattle.definitions.specs.Nets.{Home}
-use Rattle.definitions.specs.State.{Wait, Net, Pools, Engine, homes, netAt}
+use Rattle.definitions.specs.State.{Net, Pools, Engine, homes, netAt}
 use Rattle.definitions.specs.Load.{included}
 use Rattle.definitions.specs.Calls.{Held, poolsFit}
+use Rattle.waiter_laws.specs.Waiters.{Waited}
 use Rattle.fuel_laws.specs.Reached.{Reached}
 use Rattle.reached_laws.specs.Wires.{home-at}
 use Rattle.reached_laws.specs.Image.{Image, LeftBy, left-run, reached-image}
@@ -41,14 +42,14 @@ file-passes s f e = ap (λ (r : Result (File FlatNet)). accepted (verdict r)) e
 
 module _ (s : List ℕ) (f : File FlatNet) (reads : read flat s ≡ ok f) (p : Pools) (ws : List ℕ) (e : Engine) (m : Means (Named s f) ws e)
     (tidy : Tidy s ws e) (image : Image p f e) where
-  -- a wait names one of the nets
-  waits-of : (k : ℕ) (w : Wait) → List·Memᴰ w (netAt e k .awaiting) → w .net < length (e .nets)
+  -- a wait names a slot and a net
+  waits-of : Waited (e .pools .nodes) (length (e .nets)) e
   waits-of k w i =
-      let a = image .waits k w i .1 in
+      let a = image .waits k w i in
       let b : length (e .nets) ≡ length (included f)
       = sym (length-map (homes e) (λ (h : Home). h .name) ∙ length-map (e .nets) (λ (n : Net). n .home))
       ∙ ap (λ (l : List ℕ). length l) (image .file .names) ∙ length-map (included f) (λ (t : FlatNet). t .name) in
-      omega arith
+      (subst (λ (q : Pools). w .node < q .nodes) (sym (image .file .pools)) (a .0), subst (λ (j : ℕ). w .net < j) (sym b) (a .1))
 
   -- a list's first entry is the free node
   firsts : (k : ℕ) → k < length (e .nets) → nth (netAt e k .list .items) 0 ≡ some (netAt e k .home .free)
@@ -60,8 +61,8 @@ module _ (s : List ℕ) (f : File FlatNet) (reads : read flat s ≡ ok f) (p : P
       given-yes _ _ (steps-pass (Named s f) s ws e m f reads p (image .file) (image .books))
       (given-yes _ _ (nets-pass (Named s f) s f reads ws e m tidy p image)
       (given-yes _ _ (slots-pass s f reads ws e m tidy p image)
-      (given-yes _ _ (pools-pass (Named s f) s ws e m tidy (image .books) firsts)
-      (given-yes _ _ (dirty-passes (Named s f) s ws e m tidy (λ _. 0) (image .books)) (waits-pass (Named s f) s ws e m tidy (image .books) waits-of (image .idle))))))
+      (given-yes _ _ (pools-pass (Named s f) ws e m (image .books) firsts)
+      (given-yes _ _ (dirty-passes (Named s f) ws e m (λ _. 0) (image .books)) (waits-pass (Named s f) ws e m (image .books) waits-of (image .idle))))))
 
   image-resumable : (bytes : List ℕ) → take (length s) bytes ≡ s → resumable (e .pools .nodes) (e .pools .entries) (e .pools .waits) ws bytes ≡ true
   unfolding resumable held

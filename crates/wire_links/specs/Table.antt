@@ -1,18 +1,19 @@
 -- The table of links by wire, on the words. Level Words. A word is 0 where its wire is linked with none, else one more than the other wire.
-use Prim.Native.Nat.{ℕ, zero, suc, _+_, _-_, _%_, min}
-use mathlib.Core.List.{List}
+use Prim.Native.Nat.{ℕ, _+_, _-_, _%_, min}
+use mathlib.Core.List.{List, [], _∷_}
 use lib.ListN.{getD, set}
 use Rattle.words.specs.Choose.{if-eq, if-lt}
 use Rattle.net_file.specs.Write.{be}
+use Rattle.wire_blocks.specs.Blocks.{marked, looked}
 use lib.Seq.{sets}
 
 -- the place k bytes on, up to the greatest number there is
 unfoldable pub on : ℕ → ℕ → ℕ
 on at k = min 18446744073709551615 (at + k)
 
--- the word behind the table is above each wire that was linked
+-- a wire that was linked is in a marked row and a marked block, and the word behind the table is above it
 unfoldable pub raised : List ℕ → ℕ → List ℕ
-raised ws x = if-lt x (getD ws 65536 0) ws (set ws 65536 (x + 1))
+raised ws x = let v = marked 65537 ws x in if-lt x (getD v 65536 0) v (set v 65536 (x + 1))
 
 module _ (ws : List ℕ) where
   -- what wire a is linked with, or a itself
@@ -36,10 +37,10 @@ module _ (ws : List ℕ) where
   unfoldable pub begins : ℕ → ℕ
   begins a = if-lt (a + 1) (getD ws a 0) 1 0
 
-  -- how many pairs begin among the last k of n wires
-  unfoldable pub countPairs : ℕ → ℕ → ℕ
-  countPairs n zero = 0
-  countPairs n (suc k) = begins (n - suc k) + countPairs n k
+  -- how many pairs begin at some wires
+  unfoldable pub countOver : List ℕ → ℕ
+  countOver [] = 0
+  countOver (a ∷ l) = begins a + countOver l
 
   -- the place after the pair that begins at wire a, if one does; and that pair written
   unfoldable pub pairPlace : ℕ → ℕ → ℕ
@@ -50,25 +51,29 @@ module _ (ws : List ℕ) where
       let b = getD ws a 0 in
       if-lt (a + 1) b (sets (sets out to (be 2 (a % 65536))) (on to 2) (be 2 ((b - 1) % 65536))) out
 
-  -- the pairs of the last k of n wires, from a place on
-  unfoldable pub pairsPlace : ℕ → ℕ → ℕ → ℕ
-  pairsPlace n zero to = to
-  pairsPlace n (suc k) to = pairsPlace n k (pairPlace to (n - suc k))
+  -- the pairs that begin at some wires, from a place on
+  unfoldable pub placeOver : List ℕ → ℕ → ℕ
+  placeOver [] to = to
+  placeOver (a ∷ l) to = placeOver l (pairPlace to a)
 
-  unfoldable pub pairsBytes : ℕ → ℕ → ℕ → List ℕ → List ℕ
-  pairsBytes n zero to out = out
-  pairsBytes n (suc k) to out = let a = n - suc k in pairsBytes n k (pairPlace to a) (pairBytes out to a)
+  unfoldable pub bytesOver : List ℕ → ℕ → List ℕ → List ℕ
+  bytesOver [] to out = out
+  bytesOver (a ∷ l) to out = bytesOver l (pairPlace to a) (pairBytes out to a)
 
   -- how far wires are linked, below a counter
   unfoldable pub extent : ℕ → ℕ
   extent wires = let t = getD ws 65536 0 in if-lt t wires t wires
 
+  -- the wires below a counter that are looked at
+  unfoldable pub looksBelow : ℕ → List ℕ
+  looksBelow wires = looked 65537 ws (extent wires) 0
+
   -- the pairs of the wires below a counter: how many, and the place after them, and them written
   unfoldable pub pairCount : ℕ → ℕ
-  pairCount wires = let e = extent wires in countPairs e e
+  pairCount wires = countOver (looksBelow wires)
 
   unfoldable pub pairsEnd : ℕ → ℕ → ℕ
-  pairsEnd wires to = let e = extent wires in pairsPlace e e to
+  pairsEnd wires to = placeOver (looksBelow wires) to
 
   unfoldable pub pairsOut : ℕ → ℕ → List ℕ → List ℕ
-  pairsOut wires to out = let e = extent wires in pairsBytes e e to out
+  pairsOut wires to out = bytesOver (looksBelow wires) to out

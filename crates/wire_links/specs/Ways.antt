@@ -1,57 +1,54 @@
 -- The ways out, and one turn of each loop over the table, and its end.
-use Prim.Native.Nat.{ℕ, zero, suc, _+_, _-_, _<_, _≤_}
-use mathlib.Core.Path.{_≡_, refl}
+use Prim.Native.Nat.{ℕ, _+_, _<_, _≤_}
+use mathlib.Core.Path.{_≡_, refl, sym, ap, _∙_}
 use mathlib.Core.List.{List}
 use native.Mathlib.Omega.{arith}
-use native.Mathlib.Numerals.{sub-one}
-use native.Mathlib.Nat.{not-suc-le-zero}
 use lib.ListN.{getD, set}
 use Rattle.words.specs.Choose.{eq-yes, eq-no, lt-yes, lt-no, lt-split}
-use Rattle.wire_links.specs.Table.{raised, join, extent, begins, countPairs, pairPlace, pairBytes, pairsPlace, pairsBytes}
+use Rattle.wire_blocks.specs.Blocks.{marked, stride, looked}
+use Rattle.wire_blocks.specs.Ways.{looked-more, looked-done}
+use Rattle.wire_links.specs.Table.{raised, join, extent, begins, countOver, pairPlace, pairBytes, placeOver, bytesOver}
 
-module _ (ws : List ℕ) (n : ℕ) where
-  pub count-more : (k m b x : ℕ) → m + countPairs ws n k ≡ x → 0 < k → b ≡ begins ws (n - k) → m + b + countPairs ws n (k - 1) ≡ x
-  unfolding countPairs
-  count-more zero m b x e h eb = absurd (not-suc-le-zero h)
-  count-more (suc k) m b x e h eb = rw sub-one (omega arith)
+-- the wires below n that are looked at from w on: the first, and d further on those after it
+module _ (ws : List ℕ) (n w d : ℕ) (h : w < n) (ed : d ≡ stride 65537 ws w) where
+  pub count-more : (m b x : ℕ) → m + countOver ws (looked 65537 ws n w) ≡ x → b ≡ begins ws w → m + b + countOver ws (looked 65537 ws n (w + d)) ≡ x
+  unfolding countOver
+  count-more m b x e eb = let f : countOver ws (looked 65537 ws n w) ≡ begins ws w + countOver ws (looked 65537 ws n (w + d)) = ap (countOver ws) (looked-more 65537 ws n w d h ed) in omega arith
 
-  pub count-done : (k m x : ℕ) → m + countPairs ws n k ≡ x → k ≤ 0 → m ≡ x
-  unfolding countPairs
-  count-done zero m x e h = omega arith
-  count-done (suc k) m x e h = absurd (not-suc-le-zero h)
+  pub place-more : (to t x : ℕ) → placeOver ws (looked 65537 ws n w) to ≡ x → t ≡ pairPlace ws to w → placeOver ws (looked 65537 ws n (w + d)) t ≡ x
+  unfolding placeOver
+  place-more to t x e et = rw et (sym (ap (λ (l : List ℕ). placeOver ws l to) (looked-more 65537 ws n w d h ed)) ∙ e)
 
-  pub place-more : (k to t x : ℕ) → pairsPlace ws n k to ≡ x → 0 < k → t ≡ pairPlace ws to (n - k) → pairsPlace ws n (k - 1) t ≡ x
-  unfolding pairsPlace
-  place-more zero to t x e h et = absurd (not-suc-le-zero h)
-  place-more (suc k) to t x e h et = rw (sub-one, et) e
+  pub bytes-more : (to t : ℕ) (out o x : List ℕ) → bytesOver ws (looked 65537 ws n w) to out ≡ x → t ≡ pairPlace ws to w → o ≡ pairBytes ws out to w
+      → bytesOver ws (looked 65537 ws n (w + d)) t o ≡ x
+  unfolding bytesOver
+  bytes-more to t out o x e et eo = rw (et, eo) (sym (ap (λ (l : List ℕ). bytesOver ws l to out) (looked-more 65537 ws n w d h ed)) ∙ e)
 
-  pub place-done : (k to x : ℕ) → pairsPlace ws n k to ≡ x → k ≤ 0 → to ≡ x
-  unfolding pairsPlace
-  place-done zero to x e h = e
-  place-done (suc k) to x e h = absurd (not-suc-le-zero h)
+module _ (ws : List ℕ) (n w : ℕ) (h : n ≤ w) where
+  pub count-done : (m x : ℕ) → m + countOver ws (looked 65537 ws n w) ≡ x → m ≡ x
+  unfolding countOver
+  count-done m x e = let f : countOver ws (looked 65537 ws n w) ≡ 0 = ap (countOver ws) (looked-done 65537 ws n w h) in omega arith
 
-  pub bytes-more : (k to t : ℕ) (out o x : List ℕ) → pairsBytes ws n k to out ≡ x → 0 < k → t ≡ pairPlace ws to (n - k) → o ≡ pairBytes ws out to (n - k)
-      → pairsBytes ws n (k - 1) t o ≡ x
-  unfolding pairsBytes
-  bytes-more zero to t out o x e h et eo = absurd (not-suc-le-zero h)
-  bytes-more (suc k) to t out o x e h et eo = rw (sub-one, et, eo) e
+  pub place-done : (to x : ℕ) → placeOver ws (looked 65537 ws n w) to ≡ x → to ≡ x
+  unfolding placeOver
+  place-done to x e = sym (ap (λ (l : List ℕ). placeOver ws l to) (looked-done 65537 ws n w h)) ∙ e
 
-  pub bytes-done : (k to : ℕ) (out x : List ℕ) → pairsBytes ws n k to out ≡ x → k ≤ 0 → out ≡ x
-  unfolding pairsBytes
-  bytes-done zero to out x e h = e
-  bytes-done (suc k) to out x e h = absurd (not-suc-le-zero h)
+  pub bytes-done : (to : ℕ) (out x : List ℕ) → bytesOver ws (looked 65537 ws n w) to out ≡ x → out ≡ x
+  unfolding bytesOver
+  bytes-done to out x e = sym (ap (λ (l : List ℕ). bytesOver ws l to out) (looked-done 65537 ws n w h)) ∙ e
 
 -- ---- the word behind the table
 
+module _ (ws v : List ℕ) (x t : ℕ) (ev : v ≡ marked 65537 ws x) (et : t ≡ getD v 65536 0) where
+  pub raised-not : x < t → v ≡ raised ws x
+  unfolding raised
+  raised-not h = rw (← ev, ← et) (lt-yes _ _ _ _ h refl)
+
+  pub raised-over : (w : List ℕ) → t ≤ x → w ≡ set v 65536 (x + 1) → w ≡ raised ws x
+  unfolding raised
+  raised-over w h e = rw (← ev, ← et) (lt-no _ _ _ _ h e)
+
 module _ (ws : List ℕ) (x t : ℕ) (et : t ≡ getD ws 65536 0) where
-  pub raised-not : x < t → ws ≡ raised ws x
-  unfolding raised
-  raised-not h = rw (← et) (lt-yes _ _ _ _ h refl)
-
-  pub raised-over : (w : List ℕ) → t ≤ x → w ≡ set ws 65536 (x + 1) → w ≡ raised ws x
-  unfolding raised
-  raised-over w h e = rw (← et) (lt-no _ _ _ _ h e)
-
   pub extent-top : t < x → t ≡ extent ws x
   unfolding extent
   extent-top h = rw (← et) (lt-yes _ _ _ _ h refl)

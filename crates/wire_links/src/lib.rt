@@ -1,7 +1,8 @@
 // `WireLinks` of net.rs as a table by wire in the lent words: 0 where a wire is linked with none, else one more than the wire that it is linked with.
 ghost use mathlib.Core.Path.{_≡_};
 ghost use Prim.Native.Nat.{_≤_};
-ghost use Rattle.wire_links.specs.Table.{on, far, raised, join, link, begins, countPairs, pairPlace, pairBytes, pairsPlace, pairsBytes, extent, pairCount, pairsEnd, pairsOut};
+ghost use Rattle.wire_blocks.specs.Blocks.{looked};
+ghost use Rattle.wire_links.specs.Table.{on, far, raised, join, link, begins, countOver, pairPlace, pairBytes, placeOver, bytesOver, extent, pairCount, pairsEnd, pairsOut};
 
 // The place k bytes on, up to the greatest number there is.
 pub fn on(at: usize, k: usize) -> usize
@@ -29,9 +30,13 @@ fn far(ws: &[u32], a: u16) -> u16
 // The word behind the table is above each wire that was linked.
 const TOP: usize = 65536;
 
+// Behind it are the marks of rows and blocks of wires: a wire that was linked is in marked ones.
+pub const MARKS: u32 = 65537;
+
 fn raise(ws: &mut [u32], x: u16)
     ensures { λ _. ⌜ now (ws .exit) ≡ raised (now (ws .entry)) x ⌝ }
 {
+    wire_blocks::mark(ws, MARKS, x);
     let t = words::get(ws, TOP);
     if (x as u32) < t {
         return;
@@ -76,13 +81,13 @@ fn begins(ws: &[u32], a: u32) -> u32
 }
 
 fn count_below(ws: &[u32], wires: u32) -> u32
-    ensures { λ r. ⌜ (r ≡ countPairs (now (ws .entry)) wires wires) × (r ≤ wires) ⌝ }
+    ensures { λ r. ⌜ (r ≡ countOver (now (ws .entry)) (looked 65537 (now (ws .entry)) wires 0)) × (r ≤ wires) ⌝ }
 {
-    let mut left = wires;
+    let mut w: u64 = 0;
     let mut n: u32 = 0;
-    while 0 < left {
-        n += begins(ws, wires - left);
-        left -= 1;
+    while w < wires as u64 {
+        n += begins(ws, w as u32);
+        w += wire_blocks::stride(ws, MARKS, w as u32) as u64;
     }
     n
 }
@@ -119,13 +124,13 @@ fn put_pair(ws: &[u32], out: &mut [u8], to: usize, a: u32) -> usize
 }
 
 fn put_below(ws: &[u32], out: &mut [u8], at: usize, wires: u32) -> usize
-    ensures { λ r. ⌜ (r ≡ pairsPlace (now (ws .entry)) wires wires at) × (now (out .exit) ≡ pairsBytes (now (ws .entry)) wires wires at (now (out .entry))) ⌝ }
+    ensures { λ r. ⌜ (r ≡ placeOver (now (ws .entry)) (looked 65537 (now (ws .entry)) wires 0) at) × (now (out .exit) ≡ bytesOver (now (ws .entry)) (looked 65537 (now (ws .entry)) wires 0) at (now (out .entry))) ⌝ }
 {
-    let mut left = wires;
+    let mut a: u64 = 0;
     let mut to = at;
-    while 0 < left {
-        to = put_pair(ws, out, to, wires - left);
-        left -= 1;
+    while a < wires as u64 {
+        to = put_pair(ws, out, to, a as u32);
+        a += wire_blocks::stride(ws, MARKS, a as u32) as u64;
     }
     to
 }

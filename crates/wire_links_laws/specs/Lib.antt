@@ -1,3 +1,4 @@
+pub mod Raised
 pub mod Means
 pub mod Pairs
 pub mod Top

@@ -10,11 +10,12 @@ use lib.ListN.{length, getD, set, length-set}
 use lib.Seq.{getD-set-same, getD-set-other}
 use lib.Dec.{eqb}
 use borrow.Author.Tests.{eq-eqb, ne-eqb}
-use Rattle.words.specs.Choose.{if-eq, eq-yes, eq-no, lt-split}
+use Rattle.words.specs.Choose.{if-eq, eq-yes, eq-no}
 use Rattle.conversions.specs.Links.{Links, get, remove, insert, orElse}
 use Rattle.conversions.specs.Links
 use Rattle.wire_links.specs.Table.{far, raised, join}
 use Rattle.wire_links.specs.Table
+use Rattle.wire_links_laws.specs.Raised.{raised-long, raised-beside}
 
 -- ---- a table from wires to wires, by what stands beside each
 
@@ -136,12 +137,9 @@ module _ (ws : List ℕ) (l : Links) (m : Means ws l) (a : ℕ) (h : a < 65536) 
     ];
   }
 
--- the word behind the table says nothing of a wire
+-- the word behind the table and the marks say nothing of a wire
 means-raised : (ws : List ℕ) (l : Links) → Means ws l → (x : ℕ) → Means (raised ws x) l
-unfolding raised
-means-raised ws l m x =
-    lt-split _ _ _ _ (λ (v : List ℕ). Means v l) (λ h. m)
-    (λ h. record { long = rw length-set (m .long); word = λ a k. getD-set-other ws 65536 a (x + 1) 0 (λ e. absurd (omega arith)) ∙ m .word a k; low = m .low })
+means-raised ws l m x = record { long = rw (raised-long ws x) (m .long); word = λ a k. raised-beside ws x a k ∙ m .word a k; low = m .low }
 
 -- ---- link
 

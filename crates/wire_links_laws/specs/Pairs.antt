@@ -14,9 +14,10 @@ use Rattle.words.specs.Choose.{if-lt, lt-yes, lt-no}
 use Rattle.net_file.specs.Lists.{concatMap}
 use Rattle.net_file.specs.Write.{be, writePair}
 use Rattle.net_file_laws.specs.Bytes.{length-be}
+use Rattle.net_file_laws.specs.Exact.{Each}
 use Rattle.text_writers.specs.Wrote.{far, Wrote, nothing, then, wrote-as}
 use Rattle.conversions.specs.Links.{Links, get, from, pairsOf}
-use Rattle.wire_links.specs.Table.{on, begins, countPairs, pairPlace, pairBytes, pairsPlace, pairsBytes}
+use Rattle.wire_links.specs.Table.{on, begins, countOver, pairPlace, pairBytes, placeOver, bytesOver}
 use Rattle.wire_links_laws.specs.Means.{code, Means}
 
 -- bytes stored from a place on
@@ -47,9 +48,9 @@ pairs-from l n = concat-as _ (λ a. pairFrom a (get l a)) (λ a. by (get l a) a)
 unfoldable pub pairAt : List ℕ → ℕ → List (ℕ × ℕ)
 pairAt ws a = if-lt (a + 1) (getD ws a 0) ((a, getD ws a 0 - 1) ∷ []) []
 
--- those of the last k of n wires
-unfoldable pub pairsIn : List ℕ → ℕ → ℕ → List (ℕ × ℕ)
-pairsIn ws n k = concatMap (pairAt ws) (from (n - k) k)
+-- those of some wires
+unfoldable pub pairsIn : List ℕ → List ℕ → List (ℕ × ℕ)
+pairsIn ws l = concatMap (pairAt ws) l
 
 pair-by : (ws : List ℕ) (a : ℕ) (o : Option ℕ) → getD ws a 0 ≡ code o → pairAt ws a ≡ pairFrom a o
 unfolding pairAt pairFrom code
@@ -68,20 +69,10 @@ from-as f g m h k zero l = refl
 from-as f g m h k (suc n) l = rw (h k (omega arith), from-as f g m h (suc k) n (omega arith))
 
 -- the pairs that the words begin are those of the links that they mean
-pub pairs-mean : (ws : List ℕ) (l : Links) → Means ws l → (n : ℕ) → n ≤ 65536 → pairsIn ws n n ≡ pairsOf l n
+pub pairs-mean : (ws : List ℕ) (l : Links) → Means ws l → (n : ℕ) → n ≤ 65536 → pairsIn ws (from 0 n) ≡ pairsOf l n
 unfolding pairsIn
 pairs-mean ws l m n h =
-    let z : n - n ≡ 0 = omega arith in
-    rw z (from-as (pairAt ws) (λ a. pairFrom a (get l a)) 65536 (λ a i. pair-by ws a (get l a) (m .word a i)) 0 n (omega arith)) ∙ sym (pairs-from l n)
-
-pairs-none : (ws : List ℕ) (n : ℕ) → pairsIn ws n 0 ≡ []
-unfolding pairsIn from
-pairs-none ws n = refl
-
--- one wire more
-pairs-step : (ws : List ℕ) (n k : ℕ) → k < n → pairsIn ws n (suc k) ≡ pairAt ws (n - suc k) ++ pairsIn ws n k
-unfolding pairsIn from
-pairs-step ws n k h = let e : suc (n - suc k) ≡ n - k = omega arith in rw e
+    from-as (pairAt ws) (λ a. pairFrom a (get l a)) 65536 (λ a i. pair-by ws a (get l a) (m .word a i)) 0 n (omega arith) ∙ sym (pairs-from l n)
 
 begins-one : (ws : List ℕ) (a : ℕ) → begins ws a ≡ length (pairAt ws a)
 unfolding begins pairAt
@@ -90,10 +81,10 @@ begins-one ws a = elim (decLt (a + 1) (getD ws a 0)) [
   | no h ↦ sym (lt-no _ _ _ _ (omega arith) refl) ∙ ap length (lt-no _ _ _ _ (omega arith) refl)
 ]
 
-pub pairs-counted : (ws : List ℕ) (n k : ℕ) → k ≤ n → countPairs ws n k ≡ length (pairsIn ws n k)
-unfolding countPairs
-pairs-counted ws n zero h = rw (pairs-none ws n)
-pairs-counted ws n (suc k) h = rw (pairs-step ws n k (omega arith), length-append, begins-one ws (n - suc k), pairs-counted ws n k (omega arith))
+pub pairs-counted : (ws : List ℕ) (l : List ℕ) → countOver ws l ≡ length (pairsIn ws l)
+unfolding countOver pairsIn
+pairs-counted ws [] = refl
+pairs-counted ws (a ∷ l) = rw (length-append, begins-one ws a, pairs-counted ws l)
 
 -- ---- written
 
@@ -129,14 +120,12 @@ pair-wrote ws out a to h k t l = elim (decLt (a + 1) (getD ws a 0)) [
 ]
 
 -- all of them, in order
-pub pairs-wrote : (ws : List ℕ) → ((a : ℕ) → a < 65536 → getD ws a 0 ≤ 65536) → (n k to : ℕ) (out : List ℕ) → n ≤ 65536 → k ≤ n → to ≤ far → length out ≤ far
-    → Wrote (concatMap writePair (pairsIn ws n k)) to out (pairsBytes ws n k to out) (pairsPlace ws n k to)
-unfolding pairsBytes pairsPlace
-pairs-wrote ws low n zero to out h k t l = rw (pairs-none ws n) (nothing t l)
-pairs-wrote ws low n (suc k) to out h i t l =
-    let a = n - suc k in
-    let p = pair-wrote ws out a to (omega arith) (low a (omega arith)) t l in
+pub pairs-wrote : (ws : List ℕ) → ((a : ℕ) → a < 65536 → getD ws a 0 ≤ 65536) → (l : List ℕ) → Each (λ a. a < 65536) l → (to : ℕ) (out : List ℕ) → to ≤ far → length out ≤ far
+    → Wrote (concatMap writePair (pairsIn ws l)) to out (bytesOver ws l to out) (placeOver ws l to)
+unfolding bytesOver placeOver pairsIn
+pairs-wrote ws low [] h to out t k = nothing t k
+pairs-wrote ws low (a ∷ l) h to out t k =
+    let p = pair-wrote ws out a to (h .0) (low a (h .0)) t k in
     let e = p .is in
-    let f : length (pairBytes ws out to a) ≤ far = rw (p .out, length-sets) l in
-    rw (pairs-step ws n k (omega arith), concat-append (pairAt ws a) (pairsIn ws n k))
-    (then p (pairs-wrote ws low n k (pairPlace ws to a) (pairBytes ws out to a) h (omega arith) (omega arith) f))
+    let f : length (pairBytes ws out to a) ≤ far = rw (p .out, length-sets) k in
+    rw (concat-append (pairAt ws a) (pairsIn ws l)) (then p (pairs-wrote ws low l (h .1) (pairPlace ws to a) (pairBytes ws out to a) (omega arith) f))

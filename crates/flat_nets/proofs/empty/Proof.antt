@@ -2,18 +2,28 @@ use Rattle.flat_nets.specs.Flat.{emptied}
 use borrow.Author.Needs.{needs}
 use Rattle.flat_nets.proofs.empty.Statement.{statement}
 use Rattle.flat_nets.proofs.empty.Tie as tie
+use Rattle.flat_nets.proofs.empty.Reads as reads
+use Rattle.flat_nets.proofs.empty.Lts as lts
+use Rattle.flat_nets.proofs.empty_wires.Reads as empty-wires-reads
+use Rattle.flat_nets.proofs.zero_words.Reads as zero-words-reads
 
-extent-requires : tie.Need-extent-requires
-extent-requires c κs = search needs
+empty-wires-requires : tie.Need-empty-wires-requires
+empty-wires-requires c κs = search needs
 
-cast-clear-words : tie.Need-cast-clear-words
-cast-clear-words c = search needs
+add-zero-words : tie.Need-add-zero-words
+add-zero-words c = search needs
 
-clear-words-requires : tie.Need-clear-words-requires
-clear-words-requires c κs = search needs
+add-zero-words-2 : tie.Need-add-zero-words-2
+add-zero-words-2 c = search needs
 
-put-requires : tie.Need-put-requires
-put-requires c κs = search needs
+zero-words-requires : tie.Need-zero-words-requires
+zero-words-requires c κs = search needs
+
+add-zero-words-3 : tie.Need-add-zero-words-3
+add-zero-words-3 c = search needs
+
+zero-words-requires-2 : tie.Need-zero-words-requires-2
+zero-words-requires-2 c κs = search needs
 
 same-length : tie.Need-same-length
 same-length c = search needs
@@ -23,4 +33,4 @@ unfolding emptied
 returns c = cc
 
 pub empty-spec : {M : Type 1} → statement M
-empty-spec = tie.close (tie.spec extent-requires cast-clear-words clear-words-requires put-requires same-length returns)
+empty-spec = tie.close (tie.spec empty-wires-requires add-zero-words add-zero-words-2 zero-words-requires add-zero-words-3 zero-words-requires-2 same-length returns)

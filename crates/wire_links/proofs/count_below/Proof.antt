@@ -2,49 +2,52 @@ use native.Mathlib.Omega.{arith}
 use borrow.Author.Needs.{needs}
 use mathlib.Core.Path.{_≡_}
 use Prim.Native.Nat.{_+_, _-_, _≤_}
-use Rattle.wire_links.specs.Table.{countPairs}
+use Rattle.wire_blocks.specs.Blocks.{looked}
+use Rattle.wire_links.specs.Table.{countOver}
 use Rattle.wire_links.specs.Ways.{count-more, count-done}
 use Rattle.wire_links.proofs.count_below.Statement.{statement}
 use Rattle.wire_links.proofs.count_below.Tie as tie
 use Rattle.wire_links.proofs.count_below.Reads as reads
 use Rattle.wire_links.proofs.count_below.Lts as lts
+use Rattle.wire_blocks.proofs.stride.Reads as stride-reads
 use Rattle.wire_links.proofs.begins.Reads as begins-reads
 
 abbrev Inv-loop : tie.InvT-loop
-Inv-loop ws wires left₀ n₀ left n = (n + countPairs ws wires left ≡ countPairs ws wires wires) × (n + left ≤ wires)
+Inv-loop ws wires w₀ n₀ w n = (n + countOver ws (looked 65537 ws wires w) ≡ countOver ws (looked 65537 ws wires 0)) × (n ≤ w) × (n ≤ wires)
 
 abbrev μ-loop : tie.MeasureT-loop
-μ-loop ws wires left₀ n₀ left n = left
+μ-loop ws wires w₀ n₀ w n = wires - w
 
--- src/lib.rt:68:5
 loop-holds : tie.Need-loop-holds Inv-loop μ-loop
-loop-holds c = (omega arith, omega arith)
+loop-holds c = (omega arith, omega arith, omega arith)
 
--- src/lib.rt:69:25
-sub-begins : tie.Need-sub-begins Inv-loop μ-loop
-sub-begins c = omega arith
+cast-begins : tie.Need-cast-begins Inv-loop μ-loop
+cast-begins c = omega arith
 
--- src/lib.rt:69:14
 begins-requires : tie.Need-begins-requires Inv-loop μ-loop
 begins-requires c κs = search needs
 
--- src/lib.rt:69:9
 add-n : tie.Need-add-n Inv-loop μ-loop
 add-n c = omega arith
 
--- src/lib.rt:70:9
-sub-left : tie.Need-sub-left Inv-loop μ-loop
-sub-left c = omega arith
+cast-stride : tie.Need-cast-stride Inv-loop μ-loop
+cast-stride c = omega arith
 
--- src/lib.rt:68:5
+stride-requires : tie.Need-stride-requires Inv-loop μ-loop
+stride-requires c κs = search needs
+
+cast-w : tie.Need-cast-w Inv-loop μ-loop
+cast-w c = omega arith
+
+add-w : tie.Need-add-w Inv-loop μ-loop
+add-w c = omega arith
+
 loop-less : tie.Need-loop-less Inv-loop μ-loop
 loop-less c = omega arith
 
--- src/lib.rt:68:5
 loop-again : tie.Need-loop-again Inv-loop μ-loop
-loop-again c = (search count-more, omega arith)
+loop-again c = (search count-more, omega arith, omega arith)
 
--- src/lib.rt:63:1
 returns : tie.Need-returns Inv-loop μ-loop
 returns c = (search count-done, omega arith)
 
@@ -55,10 +58,13 @@ count-below-spec =
     Inv-loop
     μ-loop
     loop-holds
-    sub-begins
+    cast-begins
     begins-requires
     add-n
-    sub-left
+    cast-stride
+    stride-requires
+    cast-w
+    add-w
     loop-less
     loop-again
     returns)

@@ -1,4 +1,4 @@
-use Rattle.wire_links.specs.Table.{pairCount}
+use Rattle.wire_links.specs.Table.{looksBelow, pairCount}
 use Rattle.wire_links.specs.Ways.{extent-most}
 use borrow.Author.Needs.{needs}
 use Rattle.wire_links.proofs.count_pairs.Statement.{statement}
@@ -11,7 +11,7 @@ count-below-requires : tie.Need-count-below-requires
 count-below-requires c κs = search needs
 
 returns : tie.Need-returns
-unfolding pairCount
+unfolding looksBelow pairCount
 returns c = (cc, search extent-most)
 
 pub count-pairs-spec : {M : Type 1} → statement M

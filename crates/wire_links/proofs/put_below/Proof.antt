@@ -2,50 +2,53 @@ use native.Mathlib.Omega.{arith}
 use borrow.Author.Needs.{needs}
 use mathlib.Core.Path.{_≡_}
 use lib.ListN.{length}
-use Prim.Native.Nat.{_≤_}
-use Rattle.wire_links.specs.Table.{pairsPlace, pairsBytes}
+use Prim.Native.Nat.{_-_}
+use Rattle.wire_blocks.specs.Blocks.{looked}
+use Rattle.wire_links.specs.Table.{placeOver, bytesOver}
 use Rattle.wire_links.specs.Ways.{place-more, place-done, bytes-more, bytes-done}
 use Rattle.wire_links.proofs.put_below.Statement.{statement}
 use Rattle.wire_links.proofs.put_below.Tie as tie
 use Rattle.wire_links.proofs.put_below.Reads as reads
 use Rattle.wire_links.proofs.put_below.Lts as lts
+use Rattle.wire_blocks.proofs.stride.Reads as stride-reads
 use Rattle.wire_links.proofs.put_pair.Reads as put-pair-reads
 
 abbrev Inv-loop : tie.InvT-loop
-Inv-loop ws out₀ at wires left₀ to₀ out left to = (pairsPlace ws wires left to ≡ pairsPlace ws wires wires at) × (pairsBytes ws wires left to out ≡ pairsBytes ws wires wires at out₀) × (length out ≡ length out₀) × (left ≤ wires)
+Inv-loop ws out₀ at wires a₀ to₀ out a to = (placeOver ws (looked 65537 ws wires a) to ≡ placeOver ws (looked 65537 ws wires 0) at) × (bytesOver ws (looked 65537 ws wires a) to out ≡ bytesOver ws (looked 65537 ws wires 0) at out₀) × (length out ≡ length out₀)
 
 abbrev μ-loop : tie.MeasureT-loop
-μ-loop ws out₀ at wires left₀ to₀ out left to = left
+μ-loop ws out₀ at wires a₀ to₀ out a to = wires - a
 
--- src/lib.rt:94:5
 loop-holds : tie.Need-loop-holds Inv-loop μ-loop
-loop-holds c = (cc, cc, search needs, omega arith)
+loop-holds c = (cc, cc, search needs)
 
--- src/lib.rt:95:36
-sub-put-pair : tie.Need-sub-put-pair Inv-loop μ-loop
-sub-put-pair c = omega arith
+cast-put-pair : tie.Need-cast-put-pair Inv-loop μ-loop
+cast-put-pair c = omega arith
 
--- src/lib.rt:95:9
 put-pair-requires : tie.Need-put-pair-requires Inv-loop μ-loop
 put-pair-requires c κs = search needs
 
--- src/lib.rt:96:9
-sub-left : tie.Need-sub-left Inv-loop μ-loop
-sub-left c = omega arith
+cast-stride : tie.Need-cast-stride Inv-loop μ-loop
+cast-stride c = omega arith
 
--- src/lib.rt:94:5
+stride-requires : tie.Need-stride-requires Inv-loop μ-loop
+stride-requires c κs = search needs
+
+cast-a : tie.Need-cast-a Inv-loop μ-loop
+cast-a c = omega arith
+
+add-a : tie.Need-add-a Inv-loop μ-loop
+add-a c = omega arith
+
 loop-less : tie.Need-loop-less Inv-loop μ-loop
 loop-less c = omega arith
 
--- src/lib.rt:94:5
 loop-again : tie.Need-loop-again Inv-loop μ-loop
-loop-again c = (search place-more, search bytes-more, omega arith, omega arith)
+loop-again c = (search place-more, search bytes-more, omega arith)
 
--- src/lib.rt:89:1
 same-length : tie.Need-same-length Inv-loop μ-loop
 same-length c = omega arith
 
--- src/lib.rt:89:1
 returns : tie.Need-returns Inv-loop μ-loop
 returns c = (search place-done, search bytes-done)
 
@@ -56,9 +59,12 @@ put-below-spec =
     Inv-loop
     μ-loop
     loop-holds
-    sub-put-pair
+    cast-put-pair
     put-pair-requires
-    sub-left
+    cast-stride
+    stride-requires
+    cast-a
+    add-a
     loop-less
     loop-again
     same-length

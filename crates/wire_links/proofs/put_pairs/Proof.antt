@@ -1,4 +1,4 @@
-use Rattle.wire_links.specs.Table.{pairsEnd, pairsOut}
+use Rattle.wire_links.specs.Table.{looksBelow, pairsEnd, pairsOut}
 use borrow.Author.Needs.{needs}
 use Rattle.wire_links.proofs.put_pairs.Statement.{statement}
 use Rattle.wire_links.proofs.put_pairs.Tie as tie
@@ -13,7 +13,7 @@ same-length : tie.Need-same-length
 same-length c = search needs
 
 returns : tie.Need-returns
-unfolding pairsEnd pairsOut
+unfolding looksBelow pairsEnd pairsOut
 returns c = (cc, cc)
 
 pub put-pairs-spec : {M : Type 1} → statement M

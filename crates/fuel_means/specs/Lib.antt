@@ -1,0 +1,4 @@
+pub mod Call
+pub mod Course
+pub mod Lasts
+pub mod Leave
