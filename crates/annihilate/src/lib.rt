@@ -1,4 +1,6 @@
 // The rule annihilate of common.rs.
+#![tactic(auto)]
+
 ghost use Rattle.std.specs.Prelude.{◌≡◌};
 ghost use Rattle.annihilate.specs.Annihilate.{alike, act, annihilate};
 

@@ -1,4 +1,6 @@
 // Begin: a file is checked and copied, its included nets are loaded.
+#![tactic(auto)]
+
 ghost use Rattle.std.specs.Prelude.{◌≡◌};
 ghost use Rattle.begin.specs.Begin.{start, loaded, load_file, checked_file, begin};
 

@@ -1,4 +1,6 @@
 // Check 5 on a whole flat file, from its fifth byte to its last.
+#![tactic(auto)]
+
 ghost use Rattle.std.specs.Prelude.{◌≡◌};
 ghost use Rattle.net_file.specs.Read.{read_flat_net, read_body};
 ghost use Rattle.net_file.specs.Checks.{flat};

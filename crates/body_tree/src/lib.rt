@@ -1,4 +1,6 @@
 // Check 5 on a whole tree file, from its fifth byte to its last.
+#![tactic(auto)]
+
 ghost use Rattle.std.specs.Prelude.{◌≡◌};
 ghost use Rattle.net_file.specs.Read.{read_tree_net, read_body};
 ghost use Rattle.net_file.specs.Checks.{tree};

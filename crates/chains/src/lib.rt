@@ -1,1 +1,2 @@
 // Chains of places that mean lists: laws only, in specs/.
+#![tactic(auto)]

@@ -1,6 +1,8 @@
 // Says of the net file on standard input whether it is accepted, or by which number it is refused.
 //
 // A file whose fifth byte is 65 goes to check_tree, any other to check_flat. One of over 524,288 bytes is `refused 2`.
+#![tactic(auto)]
+
 use libc::{STDIN_FILENO, STDOUT_FILENO};
 use net_check::Checked;
 

@@ -1,5 +1,7 @@
 // The checks of a file's tables that come after its bytes are read: whether paths and names differ (6), and whether a rule names
 // the free path (8). The same for both versions.
+#![tactic(auto)]
+
 ghost use Rattle.std.specs.Prelude.{◌≡◌};
 ghost use Rattle.checks.specs.Checks.{tables_differ, free_named};
 

@@ -1,1 +1,2 @@
 // What the checks of the tables mean. Laws only, in specs/.
+#![tactic(auto)]

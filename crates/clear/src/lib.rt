@@ -1,4 +1,6 @@
 // The start of a lent slice made 0. How many are made 0 is found before the loop, so that it is one plain fill.
+#![tactic(auto)]
+
 ghost use Rattle.std.specs.Prelude.{◌≤◌, ◌≡◌, length};
 ghost use Rattle.clear.specs.Zeroed.{zeroed};
 

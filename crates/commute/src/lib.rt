@@ -1,4 +1,6 @@
 // The rule commute of common.rs.
+#![tactic(auto)]
+
 ghost use Rattle.std.specs.Prelude.{◌+◌, ◌≤◌, ◌<◌, ◌≡◌};
 ghost use Rattle.commute.specs.Commute.{row, blank, link_column, copy_across, copy_both, aux_count, side_of, commute};
 
@@ -37,7 +39,7 @@ fn link_column(ws: &mut [u32], grid: &[[u32; 15]; 15], p: Port, j: usize, k: usi
     }
 }
 
-#[derive(Drop)]
+#[derive(Clone, Copy)]
 pub struct Side {
     pub net: NetId,
     pub name: u32,

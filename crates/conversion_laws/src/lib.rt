@@ -1,1 +1,2 @@
 // Laws of the conversions. Laws only, in specs/.
+#![tactic(auto)]

@@ -1,1 +1,2 @@
 // Conversions and pruning: definitions only, in specs/.
+#![tactic(auto)]

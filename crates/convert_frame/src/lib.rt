@@ -1,11 +1,13 @@
 // What the conversion calls share: their answer, their scratch, and what a result begins with.
 // A call writes its result twice: first into a slice of one byte, which tells its length, then into the output, if there is room.
+#![tactic(auto)]
+
 ghost use Rattle.std.specs.Prelude.{◌-◌, ◌%◌, ◌≡◌};
 ghost use Rattle.text_writers.specs.Wrote.{Wrote};
 ghost use Rattle.convert_frame.specs.Head.{head_bytes};
 
 // What a call answers: the length of its result, or the number by which it is refused.
-#[derive(Drop)]
+#[derive(Clone, Copy)]
 pub enum Converted {
     Written(usize),
     Refused(u32),

@@ -1,1 +1,2 @@
 // Laws of the conversions: definitions and laws only, in specs/.
+#![tactic(auto)]

@@ -1,4 +1,6 @@
 // Check 5's limit of 4,096 nodes a file, on flat nets: counted up to 4,097, so that no count can wrap.
+#![tactic(auto)]
+
 ghost use Rattle.std.specs.Prelude.{◌≡◌, ◌+◌, min};
 ghost use Rattle.count_flat.specs.Count.{net_nodes, nets_nodes};
 

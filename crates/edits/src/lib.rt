@@ -1,10 +1,12 @@
 // Nodes put in and taken out: `insert_node` and `finish_edit` of engine.rs.
+#![tactic(auto)]
+
 ghost use Rattle.std.specs.Prelude.{◌≡◌};
 ghost use Rattle.edits.specs.Edits.{fill, place_node, insert_node, loose, went_dirty, went, vacate, remove, remove_dead, finish_edit_words};
 
 use kinds::{NetId, NodeId};
 
-#[derive(Drop)]
+#[derive(Clone, Copy)]
 pub enum Placed {
     At(NodeId),
     Refused(u32),

@@ -1,1 +1,2 @@
 // Nodes put in and taken out on the words are those of level Engine. Laws only, in specs/.
+#![tactic(auto)]

@@ -1,10 +1,12 @@
 // `embed` of net.rs over the stored trees of a file: numbers for nodes and wires, and the nodes written where there is room.
 // The same walk measures and writes; what it numbers does not depend on the output.
+#![tactic(auto)]
+
 ghost use Rattle.std.specs.Prelude.{◌≡◌};
 ghost use Rattle.embed.specs.Embed.{next, principal, counter, name_size, kids, leaf, entered, head_written, topped, top_written, closed, walked, walked_all, written, written_all};
 
 // Where a walk is.
-#[derive(Drop)]
+#[derive(Clone, Copy)]
 pub struct Growth {
     // the place of the next tree in the file
     pub at: usize,

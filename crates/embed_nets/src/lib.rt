@@ -1,4 +1,6 @@
 // The trees of a net, free ones and links, embedded one after another: the walk of `to_flat` of net.rs.
+#![tactic(auto)]
+
 ghost use Rattle.std.specs.Prelude.{◌≡◌};
 ghost use Rattle.embed_nets.specs.Nets.{hung, link_walked, link_hung, link_written, links_walked, links_hung, links_written, at_free, at_links, net_walked, net_hung, net_written};
 

@@ -1,4 +1,6 @@
 // The place after each part of a flat file, by the counts that stand there; where that is past the end, the end.
+#![tactic(auto)]
+
 ghost use Rattle.std.specs.Prelude.{◌+◌, ◌≡◌};
 ghost use Rattle.stored.specs.Stored.{table_end, list_end, path_end, name_end, node_end, rule_end, pair_count_at, node_count_at, flat_net_end};
 ghost use Rattle.ends.specs.Ends.{within, on, next_net};

@@ -1,1 +1,2 @@
 // Laws of the engine's books. Laws only, in specs/.
+#![tactic(auto)]

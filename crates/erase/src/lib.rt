@@ -1,4 +1,6 @@
 // The rule erase of common.rs.
+#![tactic(auto)]
+
 ghost use Rattle.std.specs.Prelude.{◌≡◌};
 ghost use Rattle.erase.specs.Erase.{erase_ports, part, act, erase};
 

@@ -1,4 +1,6 @@
 // The rule eta_reduce of common.rs.
+#![tactic(auto)]
+
 ghost use Rattle.std.specs.Prelude.{◌≡◌};
 ghost use Rattle.eta.specs.Eta.{odd_port, nils, straight, all_straight, drop_straight, drop_all_straight, join_around, act_combinators, alike, eta_combinators, eta_reduce};
 

@@ -1,4 +1,6 @@
 // The rule eta_reduce of common.rs, on values.
+#![tactic(auto)]
+
 ghost use Rattle.std.specs.Prelude.{◌≡◌};
 ghost use Rattle.eta_values.specs.Values.{aux, meets, is_value, all_values, drop_value, drop_values, remove_values, put_value, act_values, eta_values_words};
 

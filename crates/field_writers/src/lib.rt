@@ -1,5 +1,7 @@
 // The fields of a net file written into a lent slice from a place on, as far as there is room; the place goes on past the end, so
 // the length of what is written can be told. Document 01, "The net file": numbers are big-endian.
+#![tactic(auto)]
+
 ghost use Rattle.std.specs.Prelude.{◌+◌, ◌-◌, ◌≡◌, eqb};
 ghost use Rattle.net_file.specs.Lists.{bit};
 ghost use Rattle.net_file.specs.Write.{be, counted, write_name, write_head};

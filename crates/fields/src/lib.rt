@@ -1,4 +1,6 @@
 // The fields of a file: big-endian numbers at a place of a slice. Past the end a byte is 0, so every place has an answer.
+#![tactic(auto)]
+
 ghost use Rattle.std.specs.Prelude.{◌≡◌, ◌<◌};
 ghost use Rattle.fields.specs.Fields.{byte, be16, be32, be64};
 

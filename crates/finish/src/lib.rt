@@ -1,4 +1,6 @@
 // The result written: `finish` of engine.rs. Tables and nets that are not included are copied, included nets are written anew.
+#![tactic(auto)]
+
 ghost use Rattle.std.specs.Prelude.{◌≡◌};
 ghost use Rattle.stored.specs.Stored.{flat_net_end};
 ghost use Rattle.ends.specs.Ends.{within};

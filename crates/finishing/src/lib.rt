@@ -1,4 +1,6 @@
 // Finish: the result of a run, written.
+#![tactic(auto)]
+
 ghost use Rattle.std.specs.Prelude.{◌%◌, Bool, ◌≡◌};
 ghost use Rattle.measure.specs.declared.Size.{Size};
 ghost use Rattle.finishing.specs.Finishing.{fits, result, delivered, finish_image, finish};

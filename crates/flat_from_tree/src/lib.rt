@@ -1,4 +1,6 @@
 // A flat file from a tree one: `to_flat` of net.rs, as a call on files.
+#![tactic(auto)]
+
 ghost use Rattle.std.specs.Prelude.{◌≡◌, length};
 ghost use Rattle.conversions.specs.Calls.{to_flat_call};
 ghost use Rattle.convert_frame.specs.Called.{long, Called};

@@ -1,4 +1,6 @@
 // Tree nets of a file as flat nets: each is measured, and then written. `to_flat` of net.rs, net by net.
+#![tactic(auto)]
+
 ghost use Rattle.std.specs.Prelude.{◌≡◌, eqb, length, ◌+◌, ◌-◌, ◌≤◌};
 ghost use Rattle.net_file.specs.Lists.{bit};
 ghost use Rattle.fields.specs.Fields.{byte};
@@ -8,7 +10,7 @@ ghost use Rattle.wire_links.specs.Table.{on, extent, looks_below};
 // ---- measured
 
 // What a net takes as a flat one: the place after it in the file, its wire counter, its nodes, its pairs, and its nodes' bytes.
-#[derive(Drop)]
+#[derive(Clone, Copy)]
 pub struct Measured {
     pub end: usize,
     pub wires: u32,
@@ -91,7 +93,7 @@ fn size(s: &[u8], at: usize, m: Measured) -> usize
 }
 
 // Nets so far: the place of the next, the greatest counter among them, the place after them in the output.
-#[derive(Drop)]
+#[derive(Clone, Copy)]
 pub struct Total {
     pub at: usize,
     pub wires: u32,
@@ -174,7 +176,7 @@ fn write_before(s: &[u8], ws: &[u32], out: &mut [u8], at: usize, to: usize, m: M
 }
 
 // The place of a net in the file, and in the output.
-#[derive(Drop)]
+#[derive(Clone, Copy)]
 pub struct Spot {
     pub at: usize,
     pub to: usize,

@@ -1,5 +1,7 @@
 // A flat net written with its links resolved: the flat `resolve_links` of net.rs. The table by wire says which wires are one wire,
 // and which occur. A pair that occurs is used up; one that occurs nowhere stays.
+#![tactic(auto)]
+
 ghost use Rattle.std.specs.Prelude.{◌+◌, ◌≡◌, length};
 ghost use Rattle.net_file.specs.Write.{be, counted, write_pair, write_node};
 ghost use Rattle.fields.specs.Fields.{be16};

@@ -1,4 +1,6 @@
 // The path `ivy:engine:free` in the table of paths. Check 5 does not count it, and check 8 refuses a rule that names it.
+#![tactic(auto)]
+
 ghost use Rattle.std.specs.Prelude.{◌≡◌, length};
 ghost use Rattle.net_file.specs.Lists.{eqs};
 ghost use Rattle.net_file.specs.Values.{free_path};

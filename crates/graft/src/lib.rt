@@ -1,4 +1,6 @@
 // The rule graft of common.rs, and `graft_net` of engine.rs.
+#![tactic(auto)]
+
 ghost use Rattle.std.specs.Prelude.{◌≡◌};
 ghost use Rattle.graft.specs.Graft.{copy_node, copy_entries, copy_nodes, copy_of, copied_port, wire_ports, wire_copy, wire_entries, wire_copies, give_way, join_ports, copied_free, graft_net_words, graft_ready, graft_named_words, graft_child_words, graft};
 

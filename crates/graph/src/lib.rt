@@ -1,4 +1,6 @@
 // Nodes, ports and dirty marks: `link`, `remove_wire`, `mark_dirty`, `insert_node`, `remove_node` of engine.rs.
+#![tactic(auto)]
+
 ghost use Rattle.std.specs.Prelude.{◌≡◌};
 ghost use Rattle.graph.specs.Graph.{grown, push_dirty, more, fewer, mark_dirty_words, join, link, link_all, remove_wire, remove_node, holes};
 

@@ -1,4 +1,6 @@
 // Checks 2, 3 and 4: the length field, the version, and the limit where its four bytes are there.
+#![tactic(auto)]
+
 ghost use Rattle.std.specs.Prelude.{◌≡◌};
 ghost use Rattle.head.specs.Head.{limit_head, head_of};
 

@@ -1,4 +1,6 @@
 // Whether a lent workspace is a resumable image, as docs/IMAGE.md lists its conditions. Nothing is written.
+#![tactic(auto)]
+
 ghost use Rattle.std.specs.Prelude.{◌≡◌};
 ghost use Rattle.image.specs.Image.{file_holds, books_hold, words_hold, held, resumable};
 

@@ -1,11 +1,13 @@
 // The pools of an image: slots, entries and waits, counted from 1. Each place in use is in some list, or once in the chain of the free
 // ones. Marks: of slot c - 1 at 16,384 + c, of entry c and of wait c at c.
+#![tactic(auto)]
+
 ghost use Rattle.std.specs.Prelude.{Bool, ◌≡◌};
 ghost use Rattle.image_chains.specs.Chains.{used, first_free, after, spot, low, is_new, vacant, is_free, see, free_hold, pool_holds};
 
 use kinds::NodeId;
 
-#[derive(Drop)]
+#[derive(Clone, Copy)]
 pub enum Pool {
     Slots,
     Entries,

@@ -1,4 +1,6 @@
 // The dirty list of an image: every dirty node is in it, and the counts agree. Marks: of slot n at n.
+#![tactic(auto)]
+
 ghost use Rattle.std.specs.Prelude.{◌≡◌};
 ghost use Rattle.image_dirty.specs.Dirty.{entry_holds, entries_hold, meets, meet, meet_all, mark_holds, marks_hold, sizes_hold, counts_from, counts_hold, dirty_holds};
 

@@ -1,4 +1,6 @@
 // The header of an image: its mark, its pools, how much of them is in use, the steps and the limit left.
+#![tactic(auto)]
+
 ghost use Rattle.std.specs.Prelude.{◌≡◌};
 ghost use Rattle.image_head.specs.Head.{pools_hold, used_hold, header_holds, left_holds, steps_hold};
 

@@ -1,4 +1,6 @@
 // The node lists of an image: chains that share no entry. A walk over them marks every entry and every node that it meets.
+#![tactic(auto)]
+
 ghost use Rattle.std.specs.Prelude.{◌≡◌};
 ghost use Rattle.marks.specs.Walks.{each_with};
 ghost use Rattle.image_lists.specs.Lists.{entry_holds, meets, meet, step, walk_list, sizes_hold, list_sizes_hold, end_holds, first_holds, starts, list_holds};
@@ -32,7 +34,7 @@ fn meets(ws: &[u32], marks: &[u8], t: NetId, n: u32) -> bool
 
 // Where a walk over a list stands: the entry to look at, the one before it, and how many nodes of the net it has met. Past an
 // entry that is not in order both are 0.
-#[derive(Drop)]
+#[derive(Clone, Copy)]
 pub struct Walk {
     pub entry: u32,
     pub last: u32,

@@ -1,1 +1,2 @@
 // The node lists, free entries and vacant slots of words that mean an engine of a run pass the image's tests. Laws only, in specs/.
+#![tactic(auto)]

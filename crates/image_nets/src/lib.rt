@@ -1,4 +1,6 @@
 // The nets of an image: the included nets of the held file in its order, each with its free node, and the nets by name.
+#![tactic(auto)]
+
 ghost use Rattle.std.specs.Prelude.{◌+◌, ◌≡◌};
 ghost use Rattle.image_nets.specs.Nets.{closed, is_free, free_holds, called, net_holds, after_net, counted, included_hold, name_holds, names_hold, nets_hold};
 

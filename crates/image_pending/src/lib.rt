@@ -1,5 +1,7 @@
 // The pending numbers of an image, which count the dirty nodes of a net and the waits that its nodes made; and its waits, each on
 // a net or free.
+#![tactic(auto)]
+
 ghost use Rattle.std.specs.Prelude.{◌≡◌};
 ghost use Rattle.image_pending.specs.Pending.{count, count_node, count_nodes, count_wait, count_waits, count_holds, counts_hold, pending_from, pending_holds, all_hold, waits_hold};
 

@@ -1,5 +1,7 @@
 // What is in use of an image's entries and slots: each entry is in a list or free, each slot holds a node of some list or is in
 // the chain of the vacant ones.
+#![tactic(auto)]
+
 ghost use Rattle.std.specs.Prelude.{◌≡◌};
 ghost use Rattle.image_pools.specs.Pools.{all_hold, pools_hold};
 

@@ -1,4 +1,6 @@
 // The slots of an image: nodes with well formed names, whose links agree at both ends within one net; vacant slots are clean.
+#![tactic(auto)]
+
 ghost use Rattle.std.specs.Prelude.{◌≡◌};
 ghost use Rattle.image_slots.specs.Slots.{has_port, is_port, port_holds, ports_hold, name_stands, name_holds, node_holds, filled_holds, slot_holds, all_hold, slots_hold};
 

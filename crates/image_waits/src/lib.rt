@@ -1,4 +1,6 @@
 // The waits of an image: chains that share none. Marks: of wait c at c.
+#![tactic(auto)]
+
 ghost use Rattle.std.specs.Prelude.{◌≡◌};
 ghost use Rattle.marks.specs.Walks.{each_with};
 ghost use Rattle.image_waits.specs.Waits.{wait_holds, is_wait, end_holds, waits_from, idle, net_holds};

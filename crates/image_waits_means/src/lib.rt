@@ -1,1 +1,2 @@
 // The waits and pending numbers of words that mean an engine of a run pass the image's tests. Laws only, in specs/.
+#![tactic(auto)]

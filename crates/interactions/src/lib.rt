@@ -1,4 +1,6 @@
 // Interactions tried on two nodes whose principal ports meet: `visit` of engine.rs, its first half.
+#![tactic(auto)]
+
 ghost use Rattle.std.specs.Prelude.{Bool, ◌≡◌};
 ghost use Rattle.stored.specs.Stored.{list_at};
 ghost use Rattle.interactions.specs.Interactions.{registered, first_of_words, apply, apply_both, in_order, straight, pair, interact};
@@ -7,7 +9,7 @@ use kinds::{NetId, NodeId};
 use tried::Tried;
 
 // A node and its net; where its principal port meets a principal port, that port's node; the paths of both.
-#[derive(Drop)]
+#[derive(Clone, Copy)]
 pub struct Visited {
     pub net: NetId,
     pub node: NodeId,

@@ -1,5 +1,7 @@
 // The optimiser's calls: begin, a slice, finish, and the three in one. docs/IMAGE.md has the workspace that they are lent: words for
 // the pools and the engine, bytes for the file. Each answers `Done` with its number, or `Refused` with document 01's number.
+#![tactic(auto)]
+
 ghost use Rattle.std.specs.Prelude.{◌≡◌};
 ghost use Rattle.begin.specs.Begin.{begin};
 ghost use Rattle.finishing.specs.Finishing.{finish};

@@ -1,4 +1,6 @@
 // The calls for C and Rust, as plain numbers. The static library defines them under these names; include/ivy.h declares them.
+#![tactic(auto)]
+
 ghost use Rattle.std.specs.Prelude.{◌≡◌};
 ghost use Rattle.begin.specs.Begin.{begin};
 ghost use Rattle.finishing.specs.Finishing.{finish};
@@ -12,7 +14,7 @@ use lent::Answer;
 
 // The number of a refusal, or 0 and the answer's number.
 #[repr(C)]
-#[derive(Drop)]
+#[derive(Clone, Copy)]
 pub struct IvyAnswer {
     pub refusal: u32,
     pub value: u32,

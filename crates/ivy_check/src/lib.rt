@@ -1,5 +1,7 @@
 // The checkers for C and Rust, as plain numbers: 0 where a file is accepted, else the number by which it is refused. The static
 // library defines both under these names; include/ivy_check.h declares them.
+#![tactic(auto)]
+
 ghost use Rattle.std.specs.Prelude.{◌≡◌};
 ghost use Rattle.net_file.specs.Checks.{flat, tree, read};
 ghost use Rattle.net_check.specs.Verdict.{number_of, verdict};

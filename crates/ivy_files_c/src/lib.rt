@@ -1,5 +1,7 @@
 // The conversions and pruning for C and Rust, as plain numbers. The static library defines them under these names;
 // include/ivy_files.h declares them.
+#![tactic(auto)]
+
 ghost use Rattle.std.specs.Prelude.{◌≡◌, length};
 ghost use Rattle.conversions.specs.Calls.{pruned, to_flat_call, to_tree_call, resolve_flat_call, resolve_tree_call};
 ghost use Rattle.convert_frame.specs.Called.{long};
@@ -9,7 +11,7 @@ use convert_frame::Converted;
 
 // The number of a refusal, or 0 and the length of the result.
 #[repr(C)]
-#[derive(Drop)]
+#[derive(Clone, Copy)]
 pub struct IvyConverted {
     pub refusal: u32,
     pub length: u64,

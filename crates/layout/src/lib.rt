@@ -1,12 +1,14 @@
 // The lent words by name: what stands where in an image, as docs/IMAGE.md lists it. Every access is total: past the end a read
 // is 0 and a write does nothing.
+#![tactic(auto)]
+
 ghost use Rattle.std.specs.Prelude.{◌≡◌, ◌/◌, ◌%◌};
 ghost use Rattle.layout.specs.Layout.{next, less, net_by_name, net_at_words, net_word_words, set_net_word, node_at, node_word, set_node_word, across, set_across, principal, node_of, is_principal_words, dirty_at, entry_at, entry_word, set_entry_word, wait_at, wait_word, set_wait_word};
 
 use kinds::{NetId, NodeId};
 
 // A port: the place of its word, 32 * node + 8 + index. Its word is the port across; a hole names itself.
-#[derive(Drop)]
+#[derive(Clone, Copy)]
 pub struct Port(pub u32);
 
 // Words of the header.

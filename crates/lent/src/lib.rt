@@ -1,16 +1,18 @@
 // What the calls are lent: pools, words and bytes; and what they answer.
+#![tactic(auto)]
+
 ghost use Rattle.std.specs.Prelude.{Bool, ◌≡◌};
 ghost use Rattle.lent.specs.Lent.{between, pools_fit_words, room, words_of, held_length, zero_words, zero_bytes};
 
 // What a call answers: its number where it is done (the steps deducted, the result's length, else 0), or by what it is refused.
-#[derive(Drop)]
+#[derive(Clone, Copy)]
 pub enum Answer {
     Done(u32),
     Refused(u32),
 }
 
 // N nodes, E node-list entries and W waits.
-#[derive(Drop)]
+#[derive(Clone, Copy)]
 pub struct Pools {
     pub nodes: u32,
     pub entries: u32,

@@ -1,5 +1,7 @@
 // The text that program netlist prints of a flat file: the limit, each net, each node. Document 01, "Checked examples".
 // What stands in the file is printed as it stands: whether the file is accepted is asked before.
+#![tactic(auto)]
+
 ghost use Rattle.std.specs.Prelude.{◌+◌, ◌≡◌, [], map, get_or};
 ghost use Rattle.net_file.specs.Lists.{refuse};
 ghost use Rattle.definitions.specs.Text.{decimal};

@@ -1,1 +1,2 @@
 // The text of an accepted file. Laws only, in specs/.
+#![tactic(auto)]

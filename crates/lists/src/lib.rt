@@ -1,4 +1,6 @@
 // Node lists and the dirty list: pushes, `tighten_net`, `tighten_dirty` of engine.rs.
+#![tactic(auto)]
+
 ghost use Rattle.std.specs.Prelude.{◌≡◌};
 ghost use Rattle.layout.specs.Layout.{set_entry_word};
 ghost use Rattle.lists.specs.Lists.{put_after, count_entry, append, push_node, sift, close, sweep, restore, tighten_net_words, dirty_node, keep_dirty, sweep_dirty, dirty_again, restore_dirty, tighten_dirty_words};
@@ -6,7 +8,7 @@ ghost use Rattle.lists.specs.Lists.{put_after, count_entry, append, push_node, s
 use kinds::{NetId, NodeId};
 
 // Where a walk over a node list stands: the entry to look at, the last one that stays or 0, how many stay.
-#[derive(Drop)]
+#[derive(Clone, Copy)]
 pub struct Walk {
     pub entry: u32,
     pub last: u32,

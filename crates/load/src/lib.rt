@@ -1,4 +1,6 @@
 // Included nets come into the engine: `add_flat_nets` and `add_flat_net` of engine.rs.
+#![tactic(auto)]
+
 ghost use Rattle.std.specs.Prelude.{◌+◌, ◌*◌, ◌<◌, ◌≤◌, ◌≡◌, length};
 ghost use Rattle.fields.specs.Fields.{byte, be16};
 ghost use Rattle.stored.specs.Stored.{list_end, name_end};

@@ -1,1 +1,2 @@
 // The nodes of a net that come into the engine on the words are those of level Engine. Laws only, in specs/.
+#![tactic(auto)]

@@ -1,4 +1,6 @@
 // Marks in a lent slice of bytes, all clear at first: what was met on a walk.
+#![tactic(auto)]
+
 ghost use Rattle.std.specs.Prelude.{◌≡◌};
 ghost use Rattle.marks.specs.Marks.{clear, met, mark, all_met};
 

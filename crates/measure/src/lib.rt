@@ -1,4 +1,6 @@
 // The result's length, before anything is written: document 01, 15.
+#![tactic(auto)]
+
 ghost use Rattle.std.specs.Prelude.{◌≡◌, ◌+◌, ◌-◌, Bool};
 ghost use Rattle.stored.specs.Stored.{flat_net_end};
 ghost use Rattle.ends.specs.Ends.{within};
@@ -7,7 +9,7 @@ ghost use Rattle.measure.specs.Measure.{plus, node_size, with_slot, slots_size, 
 use kinds::NodeId;
 
 // How many nodes there are, and in how many bytes.
-#[derive(Drop)]
+#[derive(Clone, Copy)]
 pub struct Size {
     pub nodes: u64,
     pub bytes: u64,

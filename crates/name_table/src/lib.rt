@@ -1,5 +1,7 @@
 // The name table of a flat file, made ready for pruning: the place of each name and of each net by name number, and the names sorted by
 // their bytes, so that the name of a node is looked up in at most 12 comparisons.
+#![tactic(auto)]
+
 ghost use Rattle.std.specs.Prelude.{◌≡◌, get_or, set};
 ghost use Rattle.name_table.specs.Table.{name_places, net_places, sort_from, sorted_part, number_part, find};
 

@@ -1,1 +1,2 @@
 // No edit writes the words that say which net has which name. Laws only, in specs/.
+#![tactic(auto)]

@@ -1,1 +1,2 @@
 // The rules with a script write no net's name. Laws only, in specs/.
+#![tactic(auto)]

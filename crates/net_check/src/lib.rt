@@ -1,5 +1,7 @@
 // Whether a net file is accepted, or the number by which it is refused: the checks 2 to 8 in their order, each over the whole
 // file before the next. Nothing is written, whatever the bytes are.
+#![tactic(auto)]
+
 ghost use Rattle.std.specs.Prelude.{◌≡◌};
 ghost use Rattle.net_file.specs.Checks.{flat, tree, read};
 ghost use Rattle.net_check.specs.Verdict.{verdict};
@@ -7,7 +9,7 @@ ghost use Rattle.net_check.specs.Later.{flat_later, tree_later};
 
 use walk::Walked;
 
-#[derive(Drop)]
+#[derive(Clone, Copy)]
 pub enum Checked {
     Accepted,
     Refused(u8),

@@ -1,5 +1,7 @@
 // What stands in a flat net at its place, and in a node at its place. A node's name stands at the node's own place.
 // Every function has an answer everywhere: past the end a number is 0 and a place is the end.
+#![tactic(auto)]
+
 ghost use Rattle.std.specs.Prelude.{◌+◌, ◌*◌, ◌≡◌, eqb};
 ghost use Rattle.fields.specs.Fields.{byte, be16, be32};
 ghost use Rattle.stored.specs.Stored.{table_end, name_end, node_end, pair_count_at, node_count_at};

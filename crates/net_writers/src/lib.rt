@@ -1,5 +1,7 @@
 // The parts of a net, of a tree and the head of a file, written into a lent slice. Document 01, "The net file".
 // A writer measures all that it is to write first, so it writes all of it or nothing.
+#![tactic(auto)]
+
 ghost use Rattle.net_file.specs.Values.{wire};
 ghost use Rattle.net_file.specs.Write.{write_node, write_pair, write_head, write_tree};
 ghost use Rattle.put.specs.Written.{Written, WrittenIf, Short};

@@ -1,4 +1,6 @@
 // Optimises the flat net file on standard input and prints what came of it, or by which number it is refused. Document 01, "Checked examples".
+#![tactic(auto)]
+
 ghost use Rattle.put.specs.Written.{Written};
 ghost use Rattle.netlist.specs.Said.{listed, said};
 

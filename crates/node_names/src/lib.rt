@@ -1,4 +1,6 @@
 // A node's name is the place of a name in the held file; 0 is the name of the free nodes, which equals no other.
+#![tactic(auto)]
+
 ghost use Rattle.std.specs.Prelude.{◌+◌, ◌*◌, ◌<◌, ◌≤◌, ◌≡◌, length};
 ghost use Rattle.fields.specs.Fields.{byte, be32};
 ghost use Rattle.node_names.specs.Names.{path, child_count, first_child, same_children, same_head, same_bytes, same_name_words};

@@ -1,4 +1,6 @@
 // The one-call form: begin, one slice of none, finish.
+#![tactic(auto)]
+
 ghost use Rattle.std.specs.Prelude.{◌≡◌};
 ghost use Rattle.optimising.specs.Optimising.{optimize_run, optimize_loaded, optimize_file, optimize_checked, optimize};
 

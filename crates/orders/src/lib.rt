@@ -1,6 +1,8 @@
 // The orders of check 6 on flat nets: nets ascend by their names; a pair has its smaller wire first, pairs ascend by it, and no
 // wire is in two. `last` is one more than the name or wire before, and 0 at first. A wire is marked by a word above a base,
 // so that nothing has to be cleared between nets; there are 1,024 words and, for nets that may have more wires, 65,536.
+#![tactic(auto)]
+
 ghost use Rattle.std.specs.Prelude.{◌+◌, ◌≤◌, ◌≡◌};
 ghost use Rattle.fields.specs.Fields.{be16};
 ghost use Rattle.wiring.specs.Wiring.{pair_run, net_pairs};
@@ -115,7 +117,7 @@ fn net_ordered(counts: &mut [u32], base: u16, last: u32, s: &[u8], at: usize) ->
 
 // How far nets are told by the words at hand: all are in order, one is not, or the nets from a place on, so many, need more words, where
 // the names before are below a number.
-#[derive(Drop)]
+#[derive(Clone, Copy)]
 pub enum Told {
     Ordered,
     Not,

@@ -1,4 +1,6 @@
 // The order of check 6 on tree nets: nets ascend by their names. A tree net has no pairs.
+#![tactic(auto)]
+
 ghost use Rattle.std.specs.Prelude.{◌≡◌};
 ghost use Rattle.orders_tree.specs.Names.{names_from};
 

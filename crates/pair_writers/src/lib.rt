@@ -1,4 +1,6 @@
 // A flat net written with its links resolved: of its pairs those that occur nowhere stay, the others are used up.
+#![tactic(auto)]
+
 ghost use Rattle.std.specs.Prelude.{◌+◌, ◌*◌, ◌≡◌, length};
 ghost use Rattle.stored.specs.Stored.{pairs_at};
 ghost use Rattle.text_writers.specs.Wrote.{Wrote};

@@ -1,4 +1,6 @@
 // The three pools: slots, entries and waits. The last freed is taken first, else the next new one.
+#![tactic(auto)]
+
 ghost use Rattle.std.specs.Prelude.{◌≡◌};
 ghost use Rattle.pools.specs.Pools.{take_fresh, take_slot, take_entry, take_wait, give_slot, give_entry, give_wait};
 

@@ -1,1 +1,2 @@
 // Laws of pruning: definitions and laws only, in specs/.
+#![tactic(auto)]

@@ -1,4 +1,6 @@
 // Pruning a flat file: `prune` of prune.rs as a call on bytes. What is kept stays byte for byte; a refusal writes nothing.
+#![tactic(auto)]
+
 ghost use Rattle.std.specs.Prelude.{◌≤◌, false, ◌++◌, ◌≡◌, length, get_or, replicate};
 ghost use Rattle.net_file.specs.Lists.{bit};
 ghost use Rattle.conversions.specs.Calls.{pruned, fitted};

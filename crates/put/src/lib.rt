@@ -1,12 +1,14 @@
 // The fields of a net file, written into a lent slice. Document 01, "The net file": numbers are big-endian.
 // A writer finds out first whether there is room, so it writes all of its bytes or none.
+#![tactic(auto)]
+
 ghost use Rattle.std.specs.Prelude.{◌+◌, ◌-◌, ◌≤◌, ◌≡◌, length};
 ghost use Rattle.net_file.specs.Lists.{bit};
 ghost use Rattle.net_file.specs.Write.{be, counted};
 ghost use Rattle.put.specs.Written.{Written, WrittenIf, Short, part, numbers};
 
 // The place after what was written, or that there is no room for it.
-#[derive(Drop)]
+#[derive(Clone, Copy)]
 pub enum Put {
     At(usize),
     Full,

@@ -1,1 +1,2 @@
 // Laws of what is reached: definitions and laws only, in specs/.
+#![tactic(auto)]

@@ -1,5 +1,7 @@
 // What is reached from the entries: `visit` of prune.rs, over the names in the order in which they are first met. A name is marked when it is
 // met and put in order; each in its turn leads on to its children and to what the nodes of its net lead to.
+#![tactic(auto)]
+
 ghost use Rattle.std.specs.Prelude.{◌+◌, ◌≡◌, replicate};
 ghost use Rattle.stored.specs.Stored.{list_at};
 ghost use Rattle.name_table.specs.Table.{find};

@@ -1,5 +1,7 @@
 // What stands in the tables of a flat file: the limit, the counts, the place of each path, name, rule and net, and the parts at a place.
 // Every function has an answer everywhere: past the end a number is 0 and a place is the end.
+#![tactic(auto)]
+
 ghost use Rattle.std.specs.Prelude.{◌+◌, ◌*◌, ◌≡◌, eqb};
 ghost use Rattle.fields.specs.Fields.{byte, be16, be32, be64};
 ghost use Rattle.stored.specs.Stored.{table_end, list_end, path_end, name_end, rule_end, flat_net_end, name_count_at, rule_count_at, net_count_at};
@@ -59,7 +61,7 @@ pub fn rule_end(s: &[u8], at: usize) -> usize
 }
 
 // What a table holds.
-#[derive(Drop)]
+#[derive(Clone, Copy)]
 pub enum Part {
     Path,
     Name,

@@ -1,18 +1,20 @@
 // Check 6 on tables: whether n paths, or n names, that stand one after another are pairwise different. The places of those already
 // seen are kept sorted by the bytes that stand there, so that each new one is looked up in at most 12 comparisons, whatever the
 // file holds: a hash would leave a bad file a way to make the work quadratic.
+#![tactic(auto)]
+
 ghost use Rattle.std.specs.Prelude.{◌≡◌, get_or, ◌+◌, ◌*◌};
 ghost use Rattle.fields.specs.Fields.{byte};
 ghost use Rattle.repeats.specs.Repeats.{size_of, compare, narrow, search, known, insert, differ_in, differ};
 
 // What the table is of. Either tells its own size, so of two that differ none is the other's beginning.
-#[derive(Drop)]
+#[derive(Clone, Copy)]
 pub enum Item {
     Path,
     Name,
 }
 
-#[derive(Drop)]
+#[derive(Clone, Copy)]
 pub enum Order {
     Less,
     Same,
@@ -20,7 +22,7 @@ pub enum Order {
 }
 
 // The part of the sorted places that a search has left.
-#[derive(Drop)]
+#[derive(Clone, Copy)]
 pub struct Span {
     pub lo: usize,
     pub hi: usize,

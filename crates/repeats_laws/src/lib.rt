@@ -1,1 +1,2 @@
 // What `repeats` answers means. Definitions and laws only, in specs/.
+#![tactic(auto)]

@@ -1,6 +1,6 @@
 // The head of an item: what is given to a call, and what is expected of it.
 
-#[derive(Drop)]
+#[derive(Clone, Copy)]
 pub struct Item {
     pub call: u8,
     pub refusal: u32,

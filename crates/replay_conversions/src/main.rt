@@ -3,6 +3,8 @@
 // The list comes on standard input. For each file, numbers big-endian: u8 call (1 to_flat, 2 to_tree, 3 resolve_links of flat nets,
 // 4 of tree nets, 5 prune); u8 refusal expected, 0 for a result; u32 length of the file; u32 room for the output; u32 length of
 // the expected result; u16 count of entries; the entries, u16 each; the file; the result. tests/README.md says how it is made.
+#![tactic(auto)]
+
 mod item;
 
 use convert_frame::Converted;
@@ -16,7 +18,7 @@ const MOST_FILES: u64 = 100000;
 const MOST_SHOWN: u64 = 10;
 
 // How the replay of a file went.
-#[derive(Drop)]
+#[derive(Clone, Copy)]
 enum Replayed {
     Same,
     Different,
@@ -161,7 +163,7 @@ fn counted(different: u64, file: u64) -> u64 {
     different
 }
 
-#[derive(Drop)]
+#[derive(Clone, Copy)]
 struct Tally {
     files: u64,
     different: u64,

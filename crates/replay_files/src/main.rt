@@ -2,6 +2,8 @@
 //
 // The list comes on standard input. For each file: u8 call (1 check_flat, 65 check_tree), u8 expected answer
 // (0 accepted, else the number it is refused by), u32 big-endian length, the bytes. tests/README.md says how it is made.
+#![tactic(auto)]
+
 ghost use Rattle.std.specs.Prelude.{◌+◌, ◌≤◌, ◌<◌, ◌≡◌};
 ghost use Rattle.replay_files.specs.Stream.{file_length};
 ghost use Rattle.replay_files.specs.Tallied.{after};
@@ -17,14 +19,14 @@ const MOST_FILES: u64 = 100000;
 const MOST_SHOWN: u64 = 10;
 
 // How the replay of a file went. `Different` holds the expected answer and the one that came.
-#[derive(Drop)]
+#[derive(Clone, Copy)]
 enum Replayed {
     Same,
     Different(u8, u8),
     Ended,
 }
 
-#[derive(Drop)]
+#[derive(Clone, Copy)]
 struct Tally {
     files: u64,
     different: u64,

@@ -2,7 +2,7 @@
 ghost use Rattle.std.specs.Prelude.{◌<◌};
 
 // What a file's head says: the pools, whether the run is cut, what is expected of it, and the room for its output.
-#[derive(Drop)]
+#[derive(Clone, Copy)]
 pub struct Item {
     pub nodes: u32,
     pub entries: u32,

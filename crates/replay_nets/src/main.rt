@@ -3,6 +3,8 @@
 // The list comes on standard input. For each file, numbers big-endian: u32 length of the file; u16 nodes, u16 entries, u16 waits,
 // the pools; u8 1 where the run is cut into slices too; u8 refusal expected, 0 for a result; u32 steps that the run deducts; u32
 // room for the output; u32 length of the expected result; the file; the result. tests/README.md says how it is made.
+#![tactic(auto)]
+
 mod item;
 mod run;
 mod same;
@@ -21,14 +23,14 @@ const MOST_SHOWN: u64 = 10;
 
 // How the replay of a file went. `Different` holds the number of the place: 1 one call, 2 begin, 3 the uncut slice, 4 slices of
 // 1, 5 slices of 3, 6 slices of many sizes, 7 finish.
-#[derive(Drop)]
+#[derive(Clone, Copy)]
 enum Replayed {
     Same,
     Different(u64),
     Ended,
 }
 
-#[derive(Drop)]
+#[derive(Clone, Copy)]
 struct Tally {
     files: u64,
     different: u64,

@@ -9,7 +9,7 @@ const NONE: u32 = 4294967295;
 const MOST_SLICES: u32 = 1000;
 
 // How a slice of a run went: so many steps are expected still, or the run is over, as expected or not.
-#[derive(Drop)]
+#[derive(Clone, Copy)]
 enum Went {
     On(u32),
     Over(bool),

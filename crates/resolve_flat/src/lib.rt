@@ -1,4 +1,6 @@
 // A flat file with its links resolved: the flat `resolve_links` of net.rs, as a call on files.
+#![tactic(auto)]
+
 ghost use Rattle.std.specs.Prelude.{◌+◌, ◌≡◌, length};
 ghost use Rattle.conversions.specs.Calls.{fitted, resolve_flat_call};
 ghost use Rattle.text_writers.specs.Wrote.{Wrote};

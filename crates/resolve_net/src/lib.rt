@@ -1,4 +1,6 @@
 // A stored tree net written with its links resolved: `resolve_links` of net.rs.
+#![tactic(auto)]
+
 ghost use Rattle.std.specs.Prelude.{◌≡◌};
 ghost use Rattle.wire_blocks.specs.Blocks.{looked};
 ghost use Rattle.wire_blocks.specs.Laws.{wires_from};
@@ -101,7 +103,7 @@ fn visit_links(ws: &mut [u32], s: &[u8], out: &mut [u8], n: u32, to: usize) -> S
 }
 
 // How many circles were listed, and the place behind them.
-#[derive(Drop)]
+#[derive(Clone, Copy)]
 pub struct Listed {
     pub count: u32,
     pub to: usize,
@@ -256,7 +258,7 @@ fn wires_at(s: &[u8], at: usize) -> u32
 }
 
 // What both passes tell: the place of the link count, the place behind the net, the links that are kept, the trees that are left.
-#[derive(Drop)]
+#[derive(Clone, Copy)]
 pub struct Ready {
     pub links: usize,
     pub end: usize,

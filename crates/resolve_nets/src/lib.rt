@@ -1,4 +1,6 @@
 // The nets of a tree file, one after another, written with their links resolved.
+#![tactic(auto)]
+
 ghost use Rattle.std.specs.Prelude.{◌≡◌};
 ghost use Rattle.resolve_nets.specs.Nets.{nets};
 

@@ -1,1 +1,2 @@
 // The nets of a tree file are written as the definition resolves them. Laws only, in specs/.
+#![tactic(auto)]

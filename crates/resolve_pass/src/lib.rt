@@ -1,9 +1,11 @@
 // The two passes of `resolve_links` over the links of a stored tree net: the links of two wires, then the trees that hang on wires.
+#![tactic(auto)]
+
 ghost use Rattle.std.specs.Prelude.{◌≡◌};
 ghost use Rattle.resolve_pass.specs.Pass.{wire_at, tree_end, link_wires, wire_links, over, hung_tree, hung_links, mark_wire, mark_tree, marked_links, free_tree, free_links, place, next, less, add_kept, meet, pass_link, pass};
 
 // How many links are kept, and on how many wires a tree hangs.
-#[derive(Drop)]
+#[derive(Clone, Copy)]
 pub struct Passed {
     pub kept: u32,
     pub left: u32,

@@ -1,4 +1,6 @@
 // Links resolved in a tree file: the trees' `resolve_links` of net.rs, as a call on files.
+#![tactic(auto)]
+
 ghost use Rattle.std.specs.Prelude.{◌≤◌, ◌≡◌, length, take};
 ghost use Rattle.conversions.specs.Calls.{resolve_tree_call};
 ghost use Rattle.clear.specs.Zeroed.{zeroed};

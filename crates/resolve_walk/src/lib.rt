@@ -1,17 +1,19 @@
 // Stored trees written with their wires renamed, and each wire that a tree hangs on taken for that tree: `visit` of net.rs. Where
 // the output has no room for a part it is not written, and the places are told all the same.
+#![tactic(auto)]
+
 ghost use Rattle.std.specs.Prelude.{◌≡◌};
 ghost use Rattle.resolve_walk.specs.Walk.{on, span, lead, write_wire, write_head, resume, tree, trees};
 
 // A place of the file to go on from, and the place to write at next.
-#[derive(Drop)]
+#[derive(Clone, Copy)]
 pub struct Pen {
     pub from: usize,
     pub to: usize,
 }
 
 // Written, or a tree was too deep.
-#[derive(Drop)]
+#[derive(Clone, Copy)]
 pub enum Stepped {
     At(Pen),
     Deep,
@@ -44,7 +46,7 @@ pub fn span(from: usize, to: usize) -> usize
 
 // What a tree's place leads to: one more than a node's place, or 0 and a wire; and one more than the place behind a wire that
 // stood there, or 0.
-#[derive(Drop)]
+#[derive(Clone, Copy)]
 pub struct Led {
     pub node: usize,
     pub wire: u16,
@@ -92,7 +94,7 @@ fn write_wire(s: &[u8], out: &mut [u8], led: Led, to: usize) -> Stepped
 }
 
 // Behind a node's own bytes: the place of its first child, how many there are, the place to write at next.
-#[derive(Drop)]
+#[derive(Clone, Copy)]
 pub struct Head {
     pub from: usize,
     pub count: u32,

@@ -1,1 +1,2 @@
 // What the sets of rules mean at level Engine. Laws only, in specs/.
+#![tactic(auto)]

@@ -1,4 +1,6 @@
 // Whether a rule names a path, by that path's number: check 8 asks it of the free path's.
+#![tactic(auto)]
+
 ghost use Rattle.std.specs.Prelude.{◌≡◌, eqb};
 ghost use Rattle.net_file.specs.Lists.{any};
 ghost use Rattle.ends.specs.Runs.{run};

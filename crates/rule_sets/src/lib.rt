@@ -2,6 +2,8 @@
 //
 // Sets of path p stand at 8 * p and on: 0 first lists (annihilate, erasers, a), 1 second lists (annihilate, nodes, b), 2 any of
 // these, 3 rewrites (graft, combinators), 4 values and nils, 5 nils. The places of the rules stand at 2,048 and on.
+#![tactic(auto)]
+
 ghost use Rattle.std.specs.Prelude.{◌≡◌, ◌+◌, ◌*◌, set};
 ghost use Rattle.stored.specs.Stored.{list_at, list_end};
 ghost use Rattle.rule_sets.specs.Sets.{set_of, has, rule_at_words, add, add_list, add_interaction, add_pair, add_eta, add_rule, rule_here, add_rules, rule_sets, value, nil};

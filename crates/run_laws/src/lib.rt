@@ -1,1 +1,2 @@
 // Slices of a run compose. Definitions and laws only, in specs/.
+#![tactic(auto)]

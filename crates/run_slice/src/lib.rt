@@ -1,4 +1,6 @@
 // The run: `run` of engine.rs, in slices.
+#![tactic(auto)]
+
 ghost use Rattle.std.specs.Prelude.{◌≡◌};
 ghost use Rattle.run_slice.specs.Run.{leave, count_step, live_turn, entry_turn, turn, step_on, over, go_on, run, deduct, slice};
 
@@ -6,7 +8,7 @@ use kinds::{NetId, NodeId};
 use tried::Tried;
 
 // How a run ends, and after how many steps: it rests, or it is refused by a number.
-#[derive(Drop)]
+#[derive(Clone, Copy)]
 pub enum Ran {
     Rested(u32),
     Refused { steps: u32, number: u32 },
@@ -86,7 +88,7 @@ fn turn(ws: &mut [u32], file: &[u8], sets: &[u64]) -> Tried
 }
 
 // What a turn leads to: the steps taken so far, where the run goes on; or it rests, or is refused by a number.
-#[derive(Drop)]
+#[derive(Clone, Copy)]
 pub enum Went {
     Go(u32),
     Rest,

@@ -1,12 +1,14 @@
 // A scan of stored trees in one loop, without recursion: at a place it keeps how many trees are still to come there. A wire is one
 // less; a node is one less and its children more. Where the bytes left are fewer than the trees to come, nothing comes: so the
 // sums do not wrap, on any bytes, and on a file that is read it never happens.
+#![tactic(auto)]
+
 ghost use Rattle.std.specs.Prelude.{◌≡◌, ◌+◌, ◌≤◌, min, length};
 ghost use Rattle.scan_tree.specs.Scan.{begin, step};
 ghost use Rattle.scan_tree.specs.Count.{node_at, nodes_from, end_from, links_at, net_nodes, net_end, nets_nodes};
 
 // The place of a tree, and how many come from there on.
-#[derive(Drop)]
+#[derive(Clone, Copy)]
 pub struct Scan {
     pub at: usize,
     pub left: usize,
@@ -54,7 +56,7 @@ fn node_at(s: &[u8], at: usize) -> usize
 }
 
 // How many nodes the scan met, and the place behind it.
-#[derive(Drop)]
+#[derive(Clone, Copy)]
 pub struct Counted {
     pub nodes: usize,
     pub end: usize,

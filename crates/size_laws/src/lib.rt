@@ -1,1 +1,2 @@
 // How long a net file can be. Laws only, in specs/.
+#![tactic(auto)]

@@ -1,4 +1,6 @@
 // A slice: a resumable image runs on.
+#![tactic(auto)]
+
 ghost use Rattle.std.specs.Prelude.{Bool, ◌≡◌};
 ghost use Rattle.slicing.specs.Slicing.{steps_fit, run_held, slice_image, slice};
 

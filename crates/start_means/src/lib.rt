@@ -1,1 +1,2 @@
 // The words that begin starts from mean the engine with nothing in it, and are tidy. Laws only, in specs/.
+#![tactic(auto)]

@@ -1,4 +1,6 @@
 // Bytes stored in a lent slice: all of them where there is room, else none.
+#![tactic(auto)]
+
 ghost use Rattle.std.specs.Prelude.{◌≡◌};
 ghost use Rattle.net_file.specs.Write.{be};
 ghost use Rattle.store.specs.Store.{store, between};

@@ -1,4 +1,6 @@
 // Check 5 on what both versions have before their nets: the limit, the path, name and rule tables.
+#![tactic(auto)]
+
 ghost use Rattle.std.specs.Prelude.{◌≡◌};
 ghost use Rattle.net_file.specs.Read.{many, read_rule};
 ghost use Rattle.walk.specs.After.{after};
@@ -63,7 +65,7 @@ pub fn rule_table(s: &[u8], at: usize, np: u32) -> Walked
 }
 
 // Where the name count and the net count stand, or that the tables cannot be read.
-#[derive(Drop)]
+#[derive(Clone, Copy)]
 pub enum Found {
     At(usize, usize),
     Bad,

@@ -1,6 +1,8 @@
 // How often a wire occurs in a net, counted in a lent array that has a word for each wire. A word says nothing below a base and
 // 1, 2 or 3 (three times or more) by how much it is above it. The next net counts above a base that is 4 higher, so that
 // nothing has to be cleared between nets.
+#![tactic(auto)]
+
 ghost use Rattle.std.specs.Prelude.{◌≡◌};
 ghost use Rattle.tally.specs.Tally.{more, bump};
 

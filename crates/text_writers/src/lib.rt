@@ -1,4 +1,6 @@
 // Text written into a lent slice from a place on, as far as there is room; the place goes on past the end, so the text's length can be told.
+#![tactic(auto)]
+
 ghost use Rattle.std.specs.Prelude.{◌≡◌, [], ◌∷◌, ◌+◌, ◌%◌, min};
 ghost use Rattle.definitions.specs.Text.{digits, decimal};
 ghost use Rattle.text_writers.specs.Wrote.{far, Wrote};

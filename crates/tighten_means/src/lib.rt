@@ -1,1 +1,2 @@
 // The dirty list is made tight on the words as level Engine says. Laws only, in specs/.
+#![tactic(auto)]

@@ -1,1 +1,2 @@
 // A net's list is made tight on the words as level Engine says. Laws only, in specs/.
+#![tactic(auto)]

@@ -1,1 +1,2 @@
 // Files that tell one reading of document 01 from another. Theorems only, in specs/.
+#![tactic(auto)]

@@ -1,4 +1,6 @@
 // A tree file from a flat one: `to_tree` of net.rs, as a call on files.
+#![tactic(auto)]
+
 ghost use Rattle.std.specs.Prelude.{◌+◌, ◌≡◌, length};
 ghost use Rattle.conversions.specs.Calls.{fitted, to_tree_call};
 ghost use Rattle.text_writers.specs.Wrote.{Wrote};

@@ -1,5 +1,7 @@
 // A flat net written as a tree net: `to_tree` of net.rs, each node hung on its principal wire. The table by wire says which wires
 // are one wire.
+#![tactic(auto)]
+
 ghost use Rattle.net_file.specs.Write.{counted, write_link};
 ghost use Rattle.stored.specs.Stored.{list_at, node_at};
 ghost use Rattle.wire_marks.specs.Marks.{canon};

@@ -1,10 +1,12 @@
 // What trying a rule answers, and what every rule asks of a node.
+#![tactic(auto)]
+
 ghost use Rattle.std.specs.Prelude.{◌≡◌};
 ghost use Rattle.tried.specs.Tries.{spent, arity, name};
 
 use kinds::NodeId;
 
-#[derive(Drop)]
+#[derive(Clone, Copy)]
 pub enum Tried {
     Passed,
     Acted,

@@ -1,4 +1,6 @@
 // A visit of one node: `visit` of engine.rs.
+#![tactic(auto)]
+
 ghost use Rattle.std.specs.Prelude.{◌≡◌};
 ghost use Rattle.visit.specs.Visits.{rewrite, attempt, tried_if, tries, rewrites, visit_pair, visit};
 

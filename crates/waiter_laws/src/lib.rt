@@ -1,1 +1,2 @@
 // Every wait is of a slot and of a net that are there. Laws only, in specs/.
+#![tactic(auto)]

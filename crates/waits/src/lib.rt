@@ -1,10 +1,12 @@
 // Waits: `await_net` and `finish_edit_net` of engine.rs.
+#![tactic(auto)]
+
 ghost use Rattle.std.specs.Prelude.{◌≡◌};
 ghost use Rattle.waits.specs.Waits.{append_wait, await_net_words, take_waits, wake, settle, answer, answer_all, finish_edit_net_words};
 
 use kinds::{NetId, NodeId};
 
-#[derive(Drop)]
+#[derive(Clone, Copy)]
 pub enum Awaited {
     // The named net is at 0.
     Ready,

@@ -1,12 +1,14 @@
 // Check 5 on the parts that both versions share: each function walks over one part of a net file, and answers the place after
 // it, or that a field is out of range or the bytes run out. What is right is what the reader of that part says (`after`).
+#![tactic(auto)]
+
 ghost use Rattle.std.specs.Prelude.{◌+◌, ◌<◌, ◌≤◌, ◌≡◌, length};
 ghost use Rattle.fields.specs.Fields.{be16};
 ghost use Rattle.net_file.specs.Read.{below, times, many, read_name};
 ghost use Rattle.walk.specs.After.{after};
 
 // The place after what was read, or nothing that can be read.
-#[derive(Drop)]
+#[derive(Clone, Copy)]
 pub enum Walked {
     At(usize),
     Bad,

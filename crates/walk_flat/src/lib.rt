@@ -1,4 +1,6 @@
 // Check 5 on flat nets.
+#![tactic(auto)]
+
 ghost use Rattle.std.specs.Prelude.{◌≡◌};
 ghost use Rattle.net_file.specs.Read.{times, many, read_node, read_pair, read_flat_net};
 ghost use Rattle.walk.specs.After.{after};

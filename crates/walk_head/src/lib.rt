@@ -1,4 +1,6 @@
 // Check 5 on what nets of both versions begin with: name number, included, wire counter.
+#![tactic(auto)]
+
 ghost use Rattle.std.specs.Prelude.{◌≡◌};
 ghost use Rattle.walk.specs.After.{after};
 ghost use Rattle.walk_head.specs.Head.{read_head};

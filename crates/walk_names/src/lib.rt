@@ -1,4 +1,6 @@
 // Check 5 on the name table: a child is lower than its owner.
+#![tactic(auto)]
+
 ghost use Rattle.std.specs.Prelude.{◌≡◌};
 ghost use Rattle.net_file.specs.Read.{times_from, read_name};
 ghost use Rattle.walk.specs.After.{after};

@@ -1,4 +1,6 @@
 // Check 5 on the path table: 1 to 64 bytes a path, each 33 to 126, and at most 255 paths besides `ivy:engine:free`.
+#![tactic(auto)]
+
 ghost use Rattle.std.specs.Prelude.{◌≡◌, not, length};
 ghost use Rattle.net_file.specs.Lists.{eqs, count};
 ghost use Rattle.net_file.specs.Values.{free_path};

@@ -1,4 +1,6 @@
 // Check 5 on the rules: a tag 1 to 5, then what that rule names.
+#![tactic(auto)]
+
 ghost use Rattle.std.specs.Prelude.{◌≡◌};
 ghost use Rattle.net_file.specs.Read.{times, read_list, read_tagged, read_rule};
 ghost use Rattle.walk.specs.After.{after};

@@ -1,5 +1,7 @@
 // Check 5 for trees: each function walks over one part of a tree file, and answers the place after it, or that there is none.
 // What is right is what the reader of that part says (`after`).
+#![tactic(auto)]
+
 ghost use Rattle.std.specs.Prelude.{◌≡◌};
 ghost use Rattle.net_file.specs.Read.{times, many, read_wire, read_tree, read_link, read_tree_net};
 ghost use Rattle.walk.specs.After.{after};

@@ -1,5 +1,7 @@
 // Which wires may have something in a table by wire, so that the others need not be looked at: a mark for each row of 1,024 wires, and
 // behind these one for each block of 32. The few wires of a small net are found so in some hundred looks, however great they are.
+#![tactic(auto)]
+
 ghost use Rattle.std.specs.Prelude.{◌≤◌, ◌<◌, ◌≡◌};
 ghost use Rattle.wire_blocks.specs.Blocks.{marked, row_stride, stride};
 

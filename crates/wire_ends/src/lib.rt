@@ -1,5 +1,7 @@
 // A table by wire, for one net that comes into the engine: the port that a wire was met at, 0 where none is open; for the larger wire
 // of a pair the smaller one, with a mark. `add_flat_net` of engine.rs: `wires`, `link`.
+#![tactic(auto)]
+
 ghost use Rattle.std.specs.Prelude.{◌≡◌};
 ghost use Rattle.wire_ends.specs.WireEnds.{canonical, join_wire, join_wires, put_pairs};
 

@@ -1,4 +1,6 @@
 // `WireLinks` of net.rs as a table by wire in the lent words: 0 where a wire is linked with none, else one more than the wire that it is linked with.
+#![tactic(auto)]
+
 ghost use Rattle.std.specs.Prelude.{◌≡◌, ◌≤◌};
 ghost use Rattle.wire_blocks.specs.Blocks.{looked};
 ghost use Rattle.wire_links.specs.Table.{on, far, raised, join, link, begins, count_over, pair_place, pair_bytes, place_over, bytes_over, extent, pair_count, pairs_end, pairs_out};

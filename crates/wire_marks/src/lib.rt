@@ -1,5 +1,7 @@
 // Which wires of a flat net are one wire, in a lent table by wire. A pair is marked at its greater wire, by the net's stamp and its
 // smaller wire. A mark of another stamp says nothing, so that nothing has to be cleared between nets.
+#![tactic(auto)]
+
 ghost use Rattle.std.specs.Prelude.{◌+◌, ◌*◌, ◌≡◌, set};
 ghost use Rattle.fields.specs.Fields.{be16};
 ghost use Rattle.stored.specs.Stored.{pairs_at};

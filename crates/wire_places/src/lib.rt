@@ -1,5 +1,7 @@
 // Which wires occur in the free and node places of a flat net, in the second half of a lent table by wire: at a wire that occurs
 // stands the net's stamp.
+#![tactic(auto)]
+
 ghost use Rattle.std.specs.Prelude.{◌+◌, ◌*◌, ◌≡◌, get_or, set, eqb};
 ghost use Rattle.stored.specs.Stored.{numbers_at, list_at, node_at};
 ghost use Rattle.wire_places.specs.Places.{seen, node_wires, nodes_wires, places_part};

@@ -1,5 +1,7 @@
 // Tables by wire in lent words: which wire each wire is linked with (`WireLinks` of net.rs), which tree hangs on it, and the links
 // that are kept. A word is 0 where there is nothing, else one more than a wire or than the place of a tree.
+#![tactic(auto)]
+
 ghost use Rattle.std.specs.Prelude.{◌<◌, ◌≡◌};
 ghost use Rattle.wire_tables.specs.Tables.{far, joined, link, unlink, smaller, hung, hang, keep, kept_left, kept_right, freed};
 

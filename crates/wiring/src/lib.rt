@@ -1,5 +1,7 @@
 // Check 7 on flat nets: all wires of a net are tallied, those of its pairs too; then the two of a pair occur alike, and every
 // wire in a free or node place was seen twice: a wire in a pair once there and once in its pair, any other twice.
+#![tactic(auto)]
+
 ghost use Rattle.std.specs.Prelude.{◌+◌, ◌<◌, ◌≤◌, ◌≡◌, ◌++◌, length};
 ghost use Rattle.fields.specs.Fields.{byte, be16};
 ghost use Rattle.ends.specs.Ends.{on};

@@ -1,1 +1,2 @@
 // What check 7 answers means. Laws only, in specs/.
+#![tactic(auto)]

@@ -1,10 +1,12 @@
 // Check 7 on all flat nets of a file. Each net counts above a base of its own, so that the counts are cleared once and not for each
 // net. To clear 65,536 words takes longer than to check a usual file: that is done only from a net on that may have over 1,024 wires.
+#![tactic(auto)]
+
 ghost use Rattle.std.specs.Prelude.{◌≤◌, ◌≡◌};
 ghost use Rattle.wiring_nets.specs.Nets.{told, nets_wide, nets_wired};
 
 // How far nets are told by the words at hand: all are wired, one is not, or the nets from a place on, so many, need more words.
-#[derive(Drop)]
+#[derive(Clone, Copy)]
 pub enum Told {
     Wired,
     Not,

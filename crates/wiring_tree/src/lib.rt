@@ -1,4 +1,6 @@
 // Check 7 on nets of trees: all wires of a net are tallied by one scan; then, by a second, each of them was seen twice.
+#![tactic(auto)]
+
 ghost use Rattle.std.specs.Prelude.{◌≡◌, ◌<◌, ◌≤◌, length};
 ghost use Rattle.net_file.specs.Lists.{all};
 ghost use Rattle.tally.specs.Tally.{tally};

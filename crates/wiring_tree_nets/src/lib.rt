@@ -1,5 +1,7 @@
 // Check 7 on all nets of trees of a file. Each net counts above a base of its own, so that the counts are cleared once and not for each
 // net. To clear 65,536 words takes longer than to check a usual file: that is done only from a net on that may have over 1,024 wires.
+#![tactic(auto)]
+
 ghost use Rattle.std.specs.Prelude.{◌≤◌, ◌≡◌};
 ghost use Rattle.wiring_tree_nets.specs.Nets.{told, nets_wide, nets_wired};
 

@@ -1,4 +1,6 @@
 // A net's nodes written: `finish` of engine.rs, in the order of the node list, wires numbered at first meeting from 0.
+#![tactic(auto)]
+
 ghost use Rattle.std.specs.Prelude.{◌≡◌};
 ghost use Rattle.write_nodes.specs.Nodes.{on, numbered, wire_number_words, after_wire, write_wire, write_wires, aux_ports, free_ports, write_free, write_name_words, write_ports, write_node_words, write_live, write_entry, write_list};
 
@@ -6,7 +8,7 @@ use kinds::{NetId, NodeId};
 use layout::Port;
 
 // The place to write at next, and the wire number to give next.
-#[derive(Drop)]
+#[derive(Clone, Copy)]
 pub struct Pen {
     pub at: usize,
     pub wire: u32,
@@ -156,7 +158,7 @@ fn write_node(ws: &mut [u32], file: &[u8], out: &mut [u8], n: NodeId, pen: Pen) 
 // ---- lists
 
 // Where a list is written: its net, and the place of its free wires.
-#[derive(Drop)]
+#[derive(Clone, Copy)]
 pub struct Page {
     pub net: NetId,
     pub free: usize,

@@ -1,5 +1,7 @@
 // Paths, names and rules of a net file, written into a lent slice. Document 01, "The net file".
 // A writer measures all that it is to write first, so it writes all of it or nothing.
+#![tactic(auto)]
+
 ghost use Rattle.std.specs.Prelude.{◌+◌, ◌≤◌, ◌++◌, length};
 ghost use Rattle.net_file.specs.Values.{graft, annihilate, erase, commute, eta};
 ghost use Rattle.net_file.specs.Write.{be, write_path, write_name, write_list, write_rule};
