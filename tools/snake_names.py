@@ -41,7 +41,7 @@ def crates():
 
 
 def of_a_function(path):
-    return os.path.basename(path) in ("Proof.antt", "Answers.antt", "Invariants.antt")
+    return "/proofs/" in path and os.path.basename(path) in ("Proof.antt", "Answers.antt", "Invariants.antt")
 
 
 def imports(text, own):

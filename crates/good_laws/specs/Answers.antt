@@ -18,17 +18,17 @@ use Rattle.good_laws.specs.Marks.{over_good, fewer_good, mark_good}
 abbrev pub awaits : Engine → List (List Wait)
 awaits e = map (λ t. t.awaiting) e.nets
 
-pub more-awaits : (k : ℕ) (e : Engine) → awaits (more k e) ≡ awaits e
+pub more_awaits : (k : ℕ) (e : Engine) → awaits (more k e) ≡ awaits e
 unfolding more with_pending
-more-awaits k e = over_part (λ t. t.awaiting) (λ n. with_pending (n.pending + 1) n) k e (λ t. refl)
+more_awaits k e = over_part (λ t. t.awaiting) (λ n. with_pending (n.pending + 1) n) k e (λ t. refl)
 
-pub fewer-awaits : (k : ℕ) (e : Engine) → awaits (fewer k e) ≡ awaits e
+pub fewer_awaits : (k : ℕ) (e : Engine) → awaits (fewer k e) ≡ awaits e
 unfolding fewer with_pending
-fewer-awaits k e = over_part (λ t. t.awaiting) (λ n. with_pending (n.pending - 1) n) k e (λ t. refl)
+fewer_awaits k e = over_part (λ t. t.awaiting) (λ n. with_pending (n.pending - 1) n) k e (λ t. refl)
 
-pub mark-awaits : (n : ℕ) (e : Engine) → awaits (mark_dirty n e) ≡ awaits e
+pub mark_awaits : (n : ℕ) (e : Engine) → awaits (mark_dirty n e) ≡ awaits e
 unfolding mark_dirty push_dirty with_mark with_slots with_dirty
-mark-awaits n e = go (get_or (graph_of e) n none) (is_dirty e n)
+mark_awaits n e = go (get_or (graph_of e) n none) (is_dirty e n)
   where
     go : (o : Option Node) (t : Bool) → awaits (elim o as (λ _. Engine) [
       | none ↦ e
@@ -36,30 +36,30 @@ mark-awaits n e = go (get_or (graph_of e) n none) (is_dirty e n)
     ]) ≡ awaits e
     go none t = refl
     go (some x) true = refl
-    go (some x) false = more-awaits x.net (push_dirty n (with_mark n true e))
+    go (some x) false = more_awaits x.net (push_dirty n (with_mark n true e))
 
-pub wake-awaits : (w : Wait) (e : Engine) → awaits (wake w e) ≡ awaits e
+pub wake_awaits : (w : Wait) (e : Engine) → awaits (wake w e) ≡ awaits e
 unfolding wake
-wake-awaits w e =
-    fewer-awaits w.net (elim (holds (graph_of e) w.net w.node) as (λ _. Engine) [ true ↦ mark_dirty w.node e | false ↦ e ])
-    ∙ either (λ d. awaits d ≡ awaits e) (holds (graph_of e) w.net w.node) (mark_dirty w.node e) e (mark-awaits w.node e) refl
+wake_awaits w e =
+    fewer_awaits w.net (elim (holds (graph_of e) w.net w.node) as (λ _. Engine) [ true ↦ mark_dirty w.node e | false ↦ e ])
+    ∙ either (λ d. awaits d ≡ awaits e) (holds (graph_of e) w.net w.node) (mark_dirty w.node e) e (mark_awaits w.node e) refl
 
 waits_by : (ts : List Net) → sum (map (λ t. length t.awaiting) ts) ≡ sum (map length (map (λ t. t.awaiting) ts))
 waits_by [] = refl
 waits_by (t ∷ ts) = ap (λ (k : ℕ). length t.awaiting + k) (waits_by ts)
 
-pub awaits-waits : (e e' : Engine) → awaits e' ≡ awaits e → waits e' ≡ waits e
+pub awaits_waits : (e e' : Engine) → awaits e' ≡ awaits e → waits e' ≡ waits e
 unfolding waits
-awaits-waits e e' h = waits_by e'.nets ∙ ap (λ (l : List (List Wait)). sum (map length l)) h ∙ sym (waits_by e.nets)
+awaits_waits e e' h = waits_by e'.nets ∙ ap (λ (l : List (List Wait)). sum (map length l)) h ∙ sym (waits_by e.nets)
 
 -- ---- a net's waits are taken off it
 
 abbrev pub emptied : ℕ → Engine → Engine
 emptied k e = over_net (with_awaiting []) k e
 
-pub emptied-waits : (k : ℕ) (e : Engine) → waits e ≡ length (net_at e k).awaiting + waits (emptied k e)
+pub emptied_waits : (k : ℕ) (e : Engine) → waits e ≡ length (net_at e k).awaiting + waits (emptied k e)
 unfolding waits with_awaiting
-emptied-waits k e = go (dec_lt k (length e.nets))
+emptied_waits k e = go (dec_lt k (length e.nets))
   where
     go : Dec (k < length e.nets) → waits e ≡ length (net_at e k).awaiting + waits (emptied k e)
     go (yes l) = let s = sum_over (λ t. length t.awaiting) (with_awaiting []) k e l in omega arith
@@ -73,13 +73,13 @@ emptied_made : (k : ℕ) (e : Engine) → k < length e.nets → (j : ℕ) → wa
 unfolding with_awaiting
 emptied_made k e l j = let s = sum_over (λ t. made_by j t.awaiting) (with_awaiting []) k e l in omega arith
 
-pub emptied-good : (x : ℕ → ℕ) (k : ℕ) (e : Engine) → Good x e → Good (λ j. x j + made_by j (net_at e k).awaiting) (emptied k e)
+pub emptied_good : (x : ℕ → ℕ) (k : ℕ) (e : Engine) → Good x e → Good (λ j. x j + made_by j (net_at e k).awaiting) (emptied k e)
 unfolding with_awaiting
-emptied-good x k e g = go (dec_lt k (length e.nets))
+emptied_good x k e g = go (dec_lt k (length e.nets))
   where
     go : Dec (k < length e.nets) → Good (λ j. x j + made_by j (net_at e k).awaiting) (emptied k e)
     go (yes l) =
-        let w = emptied-waits k e in
+        let w = emptied_waits k e in
         let v = g.waiting in
         over_good x (λ j. x j + made_by j (net_at e k).awaiting) (with_awaiting []) k e g (λ t. refl)
         (λ j h.
@@ -96,38 +96,38 @@ emptied-good x k e g = go (dec_lt k (length e.nets))
 
 -- ---- answers
 
-pub made-append : (j : ℕ) (us ws : List Wait) → made_by j (us ++ ws) ≡ made_by j us + made_by j ws
-made-append j [] ws = omega arith
-made-append j (u ∷ us) ws = let h = made-append j us ws in omega arith
+pub made_append : (j : ℕ) (us ws : List Wait) → made_by j (us ++ ws) ≡ made_by j us + made_by j ws
+made_append j [] ws = omega arith
+made_append j (u ∷ us) ws = let h = made_append j us ws in omega arith
 
-pub wake-good : (y : ℕ → ℕ) (w : Wait) (e : Engine) → Good (bump w.net y) e → Good y (wake w e)
+pub wake_good : (y : ℕ → ℕ) (w : Wait) (e : Engine) → Good (bump w.net y) e → Good y (wake w e)
 unfolding wake
-wake-good y w e g =
+wake_good y w e g =
     fewer_good y w.net (elim (holds (graph_of e) w.net w.node) as (λ _. Engine) [ true ↦ mark_dirty w.node e | false ↦ e ])
     (either (Good (bump w.net y)) (holds (graph_of e) w.net w.node) (mark_dirty w.node e) e (mark_good (bump w.net y) w.node e g) g)
 
-pub answer-good : (f : ℕ) (ws : List Wait) (x : ℕ → ℕ) (e : Engine) → f ≡ length ws + waits e → Good (λ j. x j + made_by j ws) e → Good x (answer f ws e)
+pub answer_good : (f : ℕ) (ws : List Wait) (x : ℕ → ℕ) (e : Engine) → f ≡ length ws + waits e → Good (λ j. x j + made_by j ws) e → Good x (answer f ws e)
 unfolding answer
-answer-good zero [] x e h g = good_extra (λ j. x j + 0) x e (λ j. omega arith) g
-answer-good zero (w ∷ ws) x e h g = absurd (omega arith)
-answer-good (suc f) [] x e h g = good_extra (λ j. x j + 0) x e (λ j. omega arith) g
-answer-good (suc f) (w ∷ ws) x e h g =
+answer_good zero [] x e h g = good_extra (λ j. x j + 0) x e (λ j. omega arith) g
+answer_good zero (w ∷ ws) x e h g = absurd (omega arith)
+answer_good (suc f) [] x e h g = good_extra (λ j. x j + 0) x e (λ j. omega arith) g
+answer_good (suc f) (w ∷ ws) x e h g =
     let y : ℕ → ℕ = λ j. x j + made_by j ws in
     let e₁ = wake w e in
     let k = w.net in
     let us = (net_at e₁ k).awaiting in
     let e₂ = emptied k e₁ in
-    let g₁ : Good y e₁ = wake-good y w e (good_extra (λ j. x j + made_by j (w ∷ ws)) (bump k y) e (λ j. omega arith) g) in
-    let a = awaits-waits e e₁ (wake-awaits w e) in
-    let b = emptied-waits k e₁ in
+    let g₁ : Good y e₁ = wake_good y w e (good_extra (λ j. x j + made_by j (w ∷ ws)) (bump k y) e (λ j. omega arith) g) in
+    let a = awaits_waits e e₁ (wake_awaits w e) in
+    let b = emptied_waits k e₁ in
     let c = length-append us ws in
     either (Good x) (eqb (net_at e₁ k).pending 0) (answer f (us ++ ws) e₂) (answer f ws e₁)
-    (answer-good f (us ++ ws) x e₂ (omega arith)
-    (good_extra (λ j. y j + made_by j us) (λ j. x j + made_by j (us ++ ws)) e₂ (λ j. let m = made-append j us ws in omega arith) (emptied-good y k e₁ g₁)))
-    (answer-good f ws x e₁ (omega arith) g₁)
+    (answer_good f (us ++ ws) x e₂ (omega arith)
+    (good_extra (λ j. y j + made_by j us) (λ j. x j + made_by j (us ++ ws)) e₂ (λ j. let m = made_append j us ws in omega arith) (emptied_good y k e₁ g₁)))
+    (answer_good f ws x e₁ (omega arith) g₁)
 
-pub finish-net-good : (x : ℕ → ℕ) (k : ℕ) (e : Engine) → Good x e → Good x (finish_edit_net k e)
+pub finish_net_good : (x : ℕ → ℕ) (k : ℕ) (e : Engine) → Good x e → Good x (finish_edit_net k e)
 unfolding finish_edit_net
-finish-net-good x k e g =
+finish_net_good x k e g =
     either (Good x) (eqb (net_at e k).pending 0) (answer (waits e) (net_at e k).awaiting (emptied k e)) e
-    (answer-good (waits e) (net_at e k).awaiting x (emptied k e) (emptied-waits k e) (emptied-good x k e g)) g
+    (answer_good (waits e) (net_at e k).awaiting x (emptied k e) (emptied_waits k e) (emptied_good x k e g)) g
