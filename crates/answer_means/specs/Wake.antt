@@ -44,13 +44,13 @@ module _ {Named : ℕ → Name → Type 0} {ws : List ℕ} {e : Engine} {h : ℕ
       (pools_kept (still_frame (fewer_still k e))) (fewer_awaits k e)
 
   -- a node that is there becomes dirty
-  mark_answering : (n k : ℕ) → filled (graph_of e) n ≡ true → Good (bump k x) e → Answering Named (Graph.mark_dirty ws n) (mark_dirty n e) h y
+  mark_answering : (n k : ℕ) → filled (graph_of e) n ≡ true → Good (bump k x) e → Answering Named (Graph.mark_dirty_words ws n) (mark_dirty n e) h y
   mark_answering n k there g =
       let b = (bare a.beside).header in
       let f = few (at (graph_of e) n).net in
       let o = bit_most (eqb k (at (graph_of e) n).net) in
       let c : CanMark e n = markable e b.few_nodes b.few_waits (bump k x) g n there (omega arith) in
-      answering_on (Graph.mark_dirty ws n) (mark_dirty n e) a (aside_mark a.beside n there c) (mark_waits a.beside n there c) (pools_kept (still_frame (mark_still n e))) (mark_awaits n e)
+      answering_on (Graph.mark_dirty_words ws n) (mark_dirty n e) a (aside_mark a.beside n there c) (mark_waits a.beside n there c) (pools_kept (still_frame (mark_still n e))) (mark_awaits n e)
 
 module _ {Named : ℕ → Name → Type 0} {ws : List ℕ} {e : Engine} {h : ℕ} {y : List Wait} (a : Answering Named ws e h y) (v : Wait) (i : (v.node < e.pools.nodes) × (v.net < length e.nets))
     (x : ℕ → ℕ) (few : (j : ℕ) → x j ≤ 4294890000) (g : Good (bump v.net x) e) where
@@ -63,7 +63,7 @@ module _ {Named : ℕ → Name → Type 0} {ws : List ℕ} {e : Engine} {h : ℕ
       b = bare a.beside
 
       go : (t : Bool) → holds (graph_of e) v.net v.node ≡ t
-          → Answering Named (Graph.fewer (if_eq (node_word ws v.node 0) (v.net + 1) (Graph.mark_dirty ws v.node) ws) (v.net + 1))
+          → Answering Named (Graph.fewer (if_eq (node_word ws v.node 0) (v.net + 1) (Graph.mark_dirty_words ws v.node) ws) (v.net + 1))
           (State.fewer v.net (elim t as (λ _. Engine) [ true ↦ mark_dirty v.node e | false ↦ e ])) h y
       go true d =
           let there = holds_filled (graph_of e) v.net v.node d in
@@ -71,11 +71,11 @@ module _ {Named : ℕ → Name → Type 0} {ws : List ℕ} {e : Engine} {h : ℕ
           let n = awaits_length e (mark_dirty v.node e) (mark_awaits v.node e) in
           let k = i.1 in
           subst (λ (w : List ℕ). Answering Named (Graph.fewer w (v.net + 1)) (State.fewer v.net (mark_dirty v.node e)) h y)
-          (eq_yes (node_word ws v.node 0) (v.net + 1) (Graph.mark_dirty ws v.node) ws (slot_holds Named ws e.pools.nodes (graph_of e) b.nodes v.node v.net i.0 d) refl)
+          (eq_yes (node_word ws v.node 0) (v.net + 1) (Graph.mark_dirty_words ws v.node) ws (slot_holds Named ws e.pools.nodes (graph_of e) b.nodes v.node v.net i.0 d) refl)
           (fewer_answering m x few v.net (omega arith) (mark_good (bump v.net x) v.node e g))
       go false d =
           subst (λ (w : List ℕ). Answering Named (Graph.fewer w (v.net + 1)) (State.fewer v.net e) h y)
-          (eq_no (node_word ws v.node 0) (v.net + 1) (Graph.mark_dirty ws v.node) ws (slot_other Named ws e.pools.nodes (graph_of e) b.nodes v.node v.net i.0 d) refl)
+          (eq_no (node_word ws v.node 0) (v.net + 1) (Graph.mark_dirty_words ws v.node) ws (slot_other Named ws e.pools.nodes (graph_of e) b.nodes v.node v.net i.0 d) refl)
           (fewer_answering a x few v.net i.1 g)
 
   -- what is to be answered next: the net's own waits before the others, where it is thereby at 0

@@ -34,18 +34,18 @@ module _ {Named : ℕ → Name → Type 0} {ws : List ℕ} {e : Engine} (a : Asi
     below = filled_below Named ws e.pools.nodes (graph_of e) (bare a).nodes n there
 
     -- a clean node becomes dirty
-    pub aside_mark : Aside Named (Graph.mark_dirty ws n) (mark_dirty n e)
+    pub aside_mark : Aside Named (Graph.mark_dirty_words ws n) (mark_dirty n e)
     aside_mark = record {
-      words = Graph.mark_dirty a.words n;
+      words = Graph.mark_dirty_words a.words n;
       engine = mark_dirty n a.engine;
       means = mark_dirty_means Named a.words a.engine a.means n (rw same_graph there) (mark_loud a.engine n (subst (λ (d : Engine). CanMark d n) (sym a.alike) (mark_hushed e n c)));
-      agree = subst (λ (q : Pools). Rest (OutWaits q.nodes q.entries) (Graph.mark_dirty a.words n) (Graph.mark_dirty ws n)) (sym (pools_kept (still_frame (mark_still n e))))
+      agree = subst (λ (q : Pools). Rest (OutWaits q.nodes q.entries) (Graph.mark_dirty_words a.words n) (Graph.mark_dirty_words ws n)) (sym (pools_kept (still_frame (mark_still n e))))
           (mark_both e.pools.nodes e.pools.entries a.words ws a.agree n below);
       alike = hushed_mark n a.engine ∙ ap (mark_dirty n) a.alike ∙ sym (hushed_mark n e);
     }
 
     -- and the waits' words are as they were
-    pub mark_waits : Rest (InWaits e.pools.nodes e.pools.entries) ws (Graph.mark_dirty ws n)
+    pub mark_waits : Rest (InWaits e.pools.nodes e.pools.entries) ws (Graph.mark_dirty_words ws n)
     unfolding is_dirty
     mark_waits =
         let b = bare a in

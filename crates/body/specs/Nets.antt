@@ -85,7 +85,7 @@ module _ {Net : Type 0} (v : NetsOf Net) (s : List ℕ) (np nm q : ℕ) where
         fit t f =
             let y = went w m (stands_times s read_net (v.net_at s) (v.net_end s) (v.stands s np nm) k (q + 2)) ew wa in
             ap (λ n. nodes_fit v.nodes (table_at (v.net_at s) (v.net_end s) (q + 2) n)) (sym e)
-            ∙ ap (λ n. leb n 4096) (sym (v.nets_nodes s np nm k (q + 2) _ _ y.from y.read)) ∙ capped _ c ec ∙ f
+            ∙ ap (λ n. leb n 4096) (sym (v.nets_nodes_lem s np nm k (q + 2) _ _ y.from y.read)) ∙ capped _ c ec ∙ f
 
         -- and what is then to be read
         rest : (t : Bool) → leb c 4096 ≡ t → nets_part read_net v.nodes (drop q s) ≡ (such t nets >>= λ ms. ended ms) (drop m s)

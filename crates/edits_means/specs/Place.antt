@@ -173,7 +173,7 @@ module _ (Named : ℕ → Name → Type 0) (ws : List ℕ) (e : Engine) (m : Mea
           let s = m.marks.sized in
           let k = (can (omega arith)).slot in
           let i = insert_is n x e (omega arith) in
-          let w = Graph.mark_dirty p.ws n in
+          let w = Graph.mark_dirty_words p.ws n in
           let done : Means Named w (mark_dirty n (placed false n x e)) = mark_dirty_means Named p.ws (placed false n x e) a.1 n there (mark (omega arith)) in
           let at : ◌≡◌ {A = Left Placed} (record { is = At (record { 0 = n }); ws = w }) (insert_node ws (x.net + 1) name (length x.ports))
           = insert_at ws p.ws w (x.net + 1) name (length x.ports) (record { 0 = n }) p.is refl refl a.0 refl in

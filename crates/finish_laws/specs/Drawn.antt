@@ -38,7 +38,7 @@ pub record Drawn (g : Graph) (ids : List ℕ) (free : ℕ) (t : FlatNet) : Type 
   -- numbers at first meeting are 0, 1, 2 .. over the nodes in order, their ports in order
   pub order : firsts eqb [] (map wire (concat_map (ports g) ids)) ≡ up_to t.wires
   -- free port i is port 2 + i of the free node
-  pub free_wires_lem : t.free ≡ map wire (drop 2 (ports g free))
+  pub free_wires : t.free ≡ map wire (drop 2 (ports g free))
   -- the other nodes in order
   pub nodes : map written t.nodes ≡ map (stands g wire) (others free ids)
   pub pairs : t.pairs ≡ []
@@ -87,7 +87,7 @@ finish_drawn e k t w ported nodes = record {
   wire = wire_number (graph_of e) (wires_met (graph_of e) (live_nodes e k));
   same = Wires.one_number (graph_of e) w (live_nodes e k);
   order = Wires.in_order (graph_of e) w (live_nodes e k);
-  free_wires_lem = refl;
+  free_wires = refl;
   nodes = nodes_drawn (graph_of e) (wires_met (graph_of e) (live_nodes e k)) (others (net_at e k).home.free (live_nodes e k))
       (λ n m. ported n (holds_filled (graph_of e) k n (nodes.sound n (keep_in (λ n. not (eqb n (net_at e k).home.free)) (live_nodes e k) n m).0)));
   pairs = refl;

@@ -144,7 +144,7 @@ module _ (path k : ℕ) (g : Graph) (w : WellWired g) (h : Home) (node : FreeNod
 
   record Placed (p : Port) : Type 0 where
     real : Real g p
-    in_net_lem : Memᴰ p.node ids
+    in_net : Memᴰ p.node ids
     other : p.node ≡ h.free → 2 ≤ p.index
 
   -- the free ports as a row
@@ -197,17 +197,17 @@ module _ (path k : ℕ) (g : Graph) (w : WellWired g) (h : Home) (node : FreeNod
           let u = y.2 in
           record {
             real = subst (λ (j : ℕ). p.index < arity g j) (sym n) (omega arith);
-            in_net_lem = subst (λ (j : ℕ). Memᴰ j ids) (sym n) free_in;
+            in_net = subst (λ (j : ℕ). Memᴰ j ids) (sym n) free_in;
             other = λ _. omega arith;
           }
       go (inr q) =
           let y = ports_of g (others h.free ids) p q in
           let x = keep_in (λ n. not (eqb n h.free)) ids p.node y.0 in
-          record { real = y.1; in_net_lem = x.0; other = λ e. absurd (is_not p.node x.1 e) }
+          record { real = y.1; in_net = x.0; other = λ e. absurd (is_not p.node x.1 e) }
 
   -- so has the port across
   across_placed : (p : Port) → Placed p → Placed (follow g p)
-  across_placed p a = record { real = follow_real g w p a.real; in_net_lem = nodes.full (follow g p).node inside; other = other }
+  across_placed p a = record { real = follow_real g w p a.real; in_net = nodes.full (follow g p).node inside; other = other }
     where
       net_of : (n : ℕ) → holds g k n ≡ true → (at g n).net ≡ k
       net_of n e = net_frame g n ∙ via (frame g n) (sym (holds_frame g n k) ∙ e)

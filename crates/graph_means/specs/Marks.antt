@@ -192,8 +192,8 @@ module _ (Named : ℕ → Name → Type 0) (ws : List ℕ) (e : Engine) (m : Mea
       rw t (more_means Named w e2 m2 (at (graph_of e) n).net c.net c.pending)
 
   -- a clean node becomes dirty
-  pub mark_dirty_means : Means Named (Graph.mark_dirty ws n) (mark_dirty n e)
-  unfolding Graph.mark_dirty mark_dirty
+  pub mark_dirty_means : Means Named (Graph.mark_dirty_words ws n) (mark_dirty n e)
+  unfolding Graph.mark_dirty_words mark_dirty
   mark_dirty_means = go (get_or (graph_of e) n none) is (is_dirty e n) refl
     where
       go : (o : Option Node) → o ≡ some (at (graph_of e) n) → (b : Bool) → is_dirty e n ≡ b → Means Named (if_eq (node_word ws n 2) 0 (Graph.marked ws n) ws)

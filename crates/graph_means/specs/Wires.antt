@@ -151,9 +151,9 @@ module _ (Named : ℕ → Name → Type 0) (ws : List ℕ) (e : Engine) (m : Mea
       let m1 : Means Named wired_words e1 = rw ej wired_means in
       let f : (p : Port) → Real (graph_of e) p → Nets.filled g p.node ≡ true
       = λ p r. filled_same (graph_of e) g p.node (frame_join (graph_of e) a b p.node) ∙ real_filled (graph_of e) p r in
-      let m2 : Means Named (Words.mark_dirty wired_words a'.node) (mark_dirty a'.node e1) = mark_dirty_means Named wired_words e1 m1 a'.node (f a' real_a') (c.first n) in
-      let m3 : Means Named (Words.mark_dirty (Words.mark_dirty wired_words a'.node) b'.node) (mark_dirty b'.node (mark_dirty a'.node e1))
-      = mark_dirty_means Named (Words.mark_dirty wired_words a'.node) (mark_dirty a'.node e1) m2 b'.node (rw (still_graph (mark_still a'.node e1)) (f b' real_b')) (c.second n) in
+      let m2 : Means Named (Words.mark_dirty_words wired_words a'.node) (mark_dirty a'.node e1) = mark_dirty_means Named wired_words e1 m1 a'.node (f a' real_a') (c.first n) in
+      let m3 : Means Named (Words.mark_dirty_words (Words.mark_dirty_words wired_words a'.node) b'.node) (mark_dirty b'.node (mark_dirty a'.node e1))
+      = mark_dirty_means Named (Words.mark_dirty_words wired_words a'.node) (mark_dirty a'.node e1) m2 b'.node (rw (still_graph (mark_still a'.node e1)) (f b' real_b')) (c.second n) in
       rw (number_node a' (index a' real_a'), number_node b' (index b' real_b'), en) m3
 
   -- a circle vanishes

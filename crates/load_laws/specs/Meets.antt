@@ -88,7 +88,7 @@ module _ (B : Port → Type 0) where
   -- what is asked of the ends met and to come
   pub record MeetsFit (k : ℕ) (g : Graph) (met xs : List End) : Type 0 where
     pub real : (y : End) → Memᴰ y (xs ++ met) → Real g y.1
-    pub in_net_lem : (y : End) → Memᴰ y (xs ++ met) → (at g y.1.node).net ≡ k
+    pub in_net : (y : End) → Memᴰ y (xs ++ met) → (at g y.1.node).net ≡ k
     pub off : (y : End) → Memᴰ y (xs ++ met) → ¬ B y.1
     pub ports : PortsApart (xs ++ met)
     pub most : (w : ℕ) → of_wire w (xs ++ met) ≤ 2
@@ -134,7 +134,7 @@ module _ (B : Port → Type 0) where
     fit_next : MeetsFit k h (x ∷ met) xs
     fit_next = record {
       real = λ y m. rw (arity_same g h y.1.node (same y.1.node)) (f.real y (swap_mem x xs met y m));
-      in_net_lem = λ y m. net_same g h y.1.node (same y.1.node) ∙ f.in_net y (swap_mem x xs met y m);
+      in_net = λ y m. net_same g h y.1.node (same y.1.node) ∙ f.in_net y (swap_mem x xs met y m);
       off = λ y m. f.off y (swap_mem x xs met y m);
       ports = swap_ports x xs met f.ports;
       most = λ w. let a = f.most w in let b = swap_count x xs met w in omega arith;

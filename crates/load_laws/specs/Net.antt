@@ -34,7 +34,7 @@ module _ (t : FlatNet) (N : ℕ → ℕ) (apart : (i j : ℕ) → N i ≡ N j �
     pub vacant : (i : ℕ) → j ≤ i → filled g (N i) ≡ false
     pub below : (y : End) → Memᴰ y met → (i : ℕ) × (i < j) × (y.1.node ≡ N i)
     pub real : (y : End) → Memᴰ y met → Real g y.1
-    pub in_net_lem : (y : End) → Memᴰ y met → (at g y.1.node).net ≡ k
+    pub in_net : (y : End) → Memᴰ y met → (at g y.1.node).net ≡ k
     pub off : (y : End) → Memᴰ y met → ¬ B y.1
     pub off_new : (i a : ℕ) → j ≤ i → ¬ B (port (N i) a)
     pub ports : PortsApart met
@@ -105,7 +105,7 @@ module _ (t : FlatNet) (N : ℕ → ℕ) (apart : (i j : ℕ) → N i ≡ N j �
     meets_fit : MeetsFit B k g₁ met ends
     meets_fit = record {
       real = real₁;
-      in_net_lem = net₁;
+      in_net = net₁;
       off = off₁;
       ports = ports₁;
       most = λ w. let a = count_kept w xs (ends ++ met) (1 + j) in let b = f.most w in omega arith;
@@ -116,7 +116,7 @@ module _ (t : FlatNet) (N : ℕ → ℕ) (apart : (i j : ℕ) → N i ≡ N j �
       vacant = λ i l. filled_same g g₂ (N i) (same₂ (N i) ∙ other₁ (N i) (λ e. let q = apart i j e in omega arith)) ∙ f.vacant i (omega arith);
       below = λ y m. below y (Memᴰ.append_cases ends m);
       real = λ y m. rw (arity_same g₁ g₂ y.1.node (same₂ y.1.node)) (real₁ y m);
-      in_net_lem = λ y m. net_same g₁ g₂ y.1.node (same₂ y.1.node) ∙ net₁ y m;
+      in_net = λ y m. net_same g₁ g₂ y.1.node (same₂ y.1.node) ∙ net₁ y m;
       off = off₁;
       off_new = λ i a l. f.off_new i a (omega arith);
       ports = ports₁;

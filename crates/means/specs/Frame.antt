@@ -103,7 +103,7 @@ module _ (ws w : List ℕ) where
   seg_keep b f h z [] a s = s
   seg_keep b f h z (n ∷ l) a s =
       let i = a.0 in
-      (s.0, rw (f (5184 + 32 * less (n + 1) + 4) (omega arith)) (seg_keep b f _ z l a.1 s.1))
+      (s.0, rw (f (5184 + 32 * less (n + 1) + 4) (omega arith)) (seg_keep b f (node_word ws (less (n + 1)) 4) z l a.1 s.1))
 
   pub vacant_keep : {N : ℕ} {chain : List ℕ} → N ≤ 4096 → Keep (HeadWords 8 2) ws w → Keep (SlotWords N 4 1) ws w → Vacant ws N chain → Vacant w N chain
   vacant_keep b h f v = record {

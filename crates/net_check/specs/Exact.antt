@@ -92,7 +92,7 @@ module _ (s : List ℕ) (b : (i : ℕ) → get_or s i 0 < 256) where
       ∙ later_exact flat (body_at flat_net_at flat_net_end s) (drop (body_end flat_net_at flat_net_end s) s) _ _ _ _
       (tables_differ_lem read_flat_net flat_net_at flat_net_end s g b)
       (nets_ordered_lem s (be16 s 9) _ (be16 s (net_count_at s)) (net_count_at s + 2) _ t.rest t.read t.inside t.few)
-      (λ o. flatlaws.nets_wired s (be16 s 9) _ (net_count_at s + 2) (be16 s (net_count_at s)) _ t.rest t.read t.inside t.few o)
+      (λ o. flatlaws.nets_wired_lem s (be16 s 9) _ (net_count_at s + 2) (be16 s (net_count_at s)) _ t.rest t.read t.inside t.few o)
       (free_is_named read_flat_net flat_net_at flat_net_end s g)
 
   -- ---- tree nets
@@ -116,7 +116,7 @@ module _ (s : List ℕ) (b : (i : ℕ) → get_or s i 0 < 256) where
       (tables_differ_lem read_tree_net tree_net_at tree_net_end s g b)
       (names_ascend s (be16 s 9) _ (be16 s (net_count_at s)) (net_count_at s + 2) _ t.rest t.read t.inside
       ∙ and_true _ ∙ ap (λ a. ascend (map (λ x. x.name) (nets_at tree_net_at tree_net_end s)) && a) (sym (no_pairs (nets_at tree_net_at tree_net_end s))))
-      (λ o. treelaws.nets_wired s (be16 s 9) _ (be16 s (net_count_at s)) (net_count_at s + 2) _ t.rest t.few t.inside t.read)
+      (λ o. treelaws.nets_wired_lem s (be16 s 9) _ (be16 s (net_count_at s)) (net_count_at s + 2) _ t.rest t.few t.inside t.read)
       (free_is_named read_tree_net tree_net_at tree_net_end s g)
 
 -- ---- the ways out of the two checkers

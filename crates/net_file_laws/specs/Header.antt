@@ -68,6 +68,7 @@ limit_passed (some n) w t = leb→le n max_steps (or_rest (eqb n no_limit) (leb 
 
 pub need_true : {A : Type 0} (t : Bool) (r : ℕ) (x : Result A) → T t → need t r x ≡ x
 need_true true r x h = refl
+need_true {A = A} false r x h = elim h [ ]
 
 pub need_ok : {A : Type 0} (t : Bool) (r : ℕ) (x : Result A) (a : A) → need t r x ≡ ok a → T t × (x ≡ ok a)
 need_ok true r x a e = (tt, e)

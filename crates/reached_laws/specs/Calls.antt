@@ -46,7 +46,7 @@ module _ (f : ℕ) (ih : (n : Option ℕ) (e : Engine) → Answers (λ e'. e'.po
 run_pools : (f : ℕ) (n : Option ℕ) (e : Engine) → Answers (λ e'. e'.pools ≡ e.pools) (run f n e)
 unfolding run
 run_pools zero n e = tt
-run_pools (suc f) n e = subst (Answers (λ e'. e'.pools ≡ e.pools)) (sym (Loop.run_by f n e)) (pools_by f (λ n' e'. run_pools f n' e') n e (next n e))
+run_pools (suc f) n e = subst (Answers (λ e'. e'.pools ≡ e.pools)) (sym (Loop.run_by_lem f n e)) (pools_by f (λ n' e'. run_pools f n' e') n e (next n e))
 
 -- ---- slice calls
 

@@ -148,7 +148,7 @@ module _ (F : Port → Type 0) (P : ℕ → Port) (N : ℕ → ℕ) (x : Node) (
   pub record HangsFit (g : Graph) (U : Port → Type 0) (k : ℕ) : Type 0 where
     pub vacant : (i : ℕ) → k ≤ i → i < c → filled g (N i) ≡ false
     pub real : (i : ℕ) → k ≤ i → i < c → Real g (P i)
-    pub in_net_lem : (i : ℕ) → k ≤ i → i < c → (at g (P i).node).net ≡ x.net
+    pub in_net : (i : ℕ) → k ≤ i → i < c → (at g (P i).node).net ≡ x.net
     pub off : (i j : ℕ) → i < c → j < c → (P i).node ≢ N j
     pub unused_p : (i : ℕ) → k ≤ i → i < c → ¬ U (P i)
     pub unused_n : (i : ℕ) → k ≤ i → i < c → ¬ U (port (N i) 0)
@@ -180,7 +180,7 @@ module _ (F : Port → Type 0) (P : ℕ → Port) (N : ℕ → ℕ) (x : Node) (
               (hangs_safe n (suc k) h (With U (P k) (Q k)) (omega arith) (record {
                 vacant = λ i a b. filled_same g h (N i) (same (N i) (apart' i a b)) ∙ f.vacant i (omega arith) b;
                 real = λ i a b. rw (arity_same g h (P i).node (same (P i).node (f.off i k b l))) (f.real i (omega arith) b);
-                in_net_lem = λ i a b. net_same g h (P i).node (same (P i).node (f.off i k b l)) ∙ f.in_net i (omega arith) b;
+                in_net = λ i a b. net_same g h (P i).node (same (P i).node (f.off i k b l)) ∙ f.in_net i (omega arith) b;
                 off = f.off;
                 unused_p = λ i a b. unused_more F P Q c apart k i U a b (f.unused_p i (omega arith) b);
                 unused_n = λ i a b. unused_more' F P Q c apart k i U a b (f.unused_n i (omega arith) b);

@@ -1,0 +1,23 @@
+use Rattle.std.proofs.Common.{◌≡◌, arith, rules}
+use Rattle.lists.specs.Lists.{restore, restore_from}
+use Rattle.lists.specs.Ways.{restore_more, restore_done}
+use Rattle.lists.proofs.restore.Goals as goal
+
+pub loop-k-init : goal.loop-k-init
+unfolding restore
+loop-k-init c = (cc, search rules)
+
+pub overflow_sub-k : goal.overflow_sub-k
+overflow_sub-k c = omega arith
+
+pub loop-k-smaller : goal.loop-k-smaller
+loop-k-smaller c = omega arith
+
+pub loop-k-preserved : goal.loop-k-preserved
+loop-k-preserved c = (search restore_more, omega arith)
+
+pub shape_of-ws : goal.shape_of-ws
+shape_of-ws c = omega arith
+
+pub returns : goal.returns
+returns c = search restore_done
