@@ -27,6 +27,7 @@ use Rattle.good_laws.specs.Scripts.{Visits}
 use Rattle.good_laws.specs.Turn.{is_some_lem}
 use Rattle.fuel_laws.specs.Lasts.{Running, next_last, taken_running}
 use Rattle.fuel_laws.specs.Reached
+use Rattle.fuel_laws.proofs.Reached as ReachedProofs
 use Rattle.fuel_laws.specs.Reached.{Reached, loads, turns, leaves}
 use Rattle.reached_laws.specs.Tracks.{filled_owner, good_tracked}
 use Rattle.reached_laws.specs.Wires.{Wires, wires_sound}

@@ -16,7 +16,7 @@ use Rattle.definitions.specs.Run
 use Rattle.definitions.specs.Run.{with_items, run_slice}
 use Rattle.good_laws.specs.Good.{rest}
 use Rattle.slice_laws.specs.Loop.{Lasts}
-use Rattle.fuel_laws.specs.Lasts.{fuel_lasts}
+use Rattle.fuel_laws.proofs.Lasts.{fuel_lasts}
 use Rattle.reached_laws.specs.Wires.{Wires, wires_sound}
 use Rattle.words.specs.Left.{Left}
 use Rattle.tried.specs.declared.Tried.{Tried}
