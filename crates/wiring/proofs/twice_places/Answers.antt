@@ -1,0 +1,6 @@
+use Rattle.wiring.specs.Wiring.{net_nodes}
+use Rattle.wiring.proofs.twice_places.Goals as goal
+
+pub returns : goal.returns
+unfolding net_nodes
+returns c = cc
