@@ -17,7 +17,7 @@ use Rattle.good_laws.specs.Edits.{Answers}
 use Rattle.good_laws.specs.Idle.{Idle}
 use Rattle.good_laws.specs.Scripts.{Visits}
 use Rattle.good_laws.specs.Sound.{Condition, Sound, Kept, of_same}
-use Rattle.good_laws.specs.Turn.{turn_kept}
+use Rattle.good_laws.proofs.Turn.{turn_kept}
 use Rattle.slice_laws.specs.Loop.{Lasts, after, taken, run_by, run_by_lem}
 use Rattle.fuel_laws.specs.Measure.{left, left_most}
 use Rattle.fuel_laws.proofs.Measure.{turn_less}

@@ -9,9 +9,10 @@ use Rattle.definitions.specs.Lists.{or_else, foldl, from, up_to}
 use Rattle.definitions.specs.Nets.{Port, Node, Graph, port, at, filled, arity}
 use Rattle.definitions.specs.Scripts.{Edit, Insert, Join, fill, join, apply}
 use Rattle.join_laws.specs.Ports.{Frame, no_frame, frame, arity_frame, arity_same, net_frame, net_same, filled_same, Real}
-use Rattle.join_laws.specs.Join.{frame_join}
+use Rattle.join_laws.proofs.Join.{frame_join}
 use Rattle.script_laws.specs.Slots.{Holes, frame_fill_same, frame_fill_other}
-use Rattle.script_laws.specs.Safe.{With, was, first, second, Safe, safe_append}
+use Rattle.script_laws.specs.Safe.{With, was, first, second, Safe}
+use Rattle.script_laws.proofs.Safe.{safe_append}
 use Rattle.script_laws.specs.Loops.{Or, left, right, Row, Apart, joins_safe, safe_end}
 
 -- a run of joins changes no frame

@@ -17,9 +17,10 @@ use Rattle.definitions.specs.Rules.{new, hang, commute_script}
 use Rattle.definitions.specs.Step.{Fresh}
 use Rattle.join_laws.specs.Ports.{Frame, no_frame, frame, frame_of, arity_frame, arity_same, net_frame, net_same, filled_same, Real}
 use Rattle.join_laws.specs.Link.{frame_cut}
-use Rattle.join_laws.specs.Join.{frame_join}
+use Rattle.join_laws.proofs.Join.{frame_join}
 use Rattle.script_laws.specs.Slots.{frame_fill_same, frame_fill_other}
-use Rattle.script_laws.specs.Safe.{With, was, first, second, Safe, safe_append}
+use Rattle.script_laws.specs.Safe.{With, was, first, second, Safe}
+use Rattle.script_laws.proofs.Safe.{safe_append}
 use Rattle.script_laws.specs.Loops.{Or, left, right, Row, Apart, hung, hangs_safe}
 use Rattle.script_laws.specs.Tidy.{WellWired, Tidy}
 use Rattle.rule_laws.specs.Ids.{distinct_two}

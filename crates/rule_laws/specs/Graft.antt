@@ -11,7 +11,7 @@ use Rattle.definitions.specs.Scripts.{Edit, Copy, Join, Script, join, apply, vac
 use Rattle.definitions.specs.Rules.{copy_port, copies, graft_script, graft_fits}
 use Rattle.definitions.specs.Step.{Fresh, NodesOf}
 use Rattle.join_laws.specs.Ports.{frame, arity_same, net_same, filled_same, Real, across_real}
-use Rattle.join_laws.specs.Join.{frame_join}
+use Rattle.join_laws.proofs.Join.{frame_join}
 use Rattle.script_laws.specs.Safe.{With, was, first, second, AllAway, away_append}
 use Rattle.script_laws.specs.Loops.{Or, left, right, Row, Apart, joins_safe}
 use Rattle.script_laws.specs.Tidy.{WellWired, Tidy, real_filled}
