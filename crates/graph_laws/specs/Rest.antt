@@ -14,11 +14,11 @@ use Rattle.definitions.specs.Step.{rewrites, Fresh, NodesOf, Acts, interacts, re
 use Rattle.join_laws.specs.Ports.{Frame, no_frame, in_net, frame, arity_same, name_same, name_frame, filled_frame, holds_same, holds_frame, across_real}
 use Rattle.script_laws.specs.Tidy.{WellWired}
 use Rattle.rule_laws.specs.Places.{one_of_two, not_fresh, Ported, Clean}
-use Rattle.rule_laws.specs.Annihilate.{annihilate_clean}
-use Rattle.rule_laws.specs.Erase.{erase_clean}
-use Rattle.rule_laws.specs.Commute.{commute_clean}
+use Rattle.rule_laws.proofs.Annihilate.{annihilate_clean}
+use Rattle.rule_laws.proofs.Erase.{erase_clean}
+use Rattle.rule_laws.proofs.Commute.{commute_clean}
 use Rattle.rule_laws.specs.Eta.{eta_clean}
-use Rattle.rule_laws.specs.Graft.{graft_clean}
+use Rattle.rule_laws.proofs.Graft.{graft_clean}
 use Rattle.graph_laws.specs.Dead.{interact_dead, Goes, eta_dead}
 
 -- net k's free node: a node of that net, its ports 0 and 1 wired together
