@@ -114,7 +114,7 @@ less_more k (some n) = ap {B = Option ℕ} some (let z : n - 1 - k ≡ n - suc k
 -- d comes from c by k steps, deducted from the limit and counted
 pub record Counted (path : ℕ) (c d : Core) (k : ℕ) : Type 0 where
   pub steps : Steps c.rules c.homes k c.graph d.graph
-  pub count : d.steps ≡ c.steps
+  pub count : d.steps ≡ c.steps + k
   pub limit : d.limit ≡ less k c.limit
   pub ready : Ready path d
   pub homes : d.homes ≡ c.homes
