@@ -27,7 +27,8 @@ use Rattle.run_slice.specs.declared.Ran.{Ran}
 use Rattle.run_slice.specs.declared.Ran.TheVariants.{Rested}
 use Rattle.run_slice.specs.declared.Ran.TheVariants.{Refused as Ran-as-Refused}
 use Rattle.held_names.specs.Named.{Named}
-use Rattle.rule_means.specs.Built.{Built, rule_sets_built}
+use Rattle.rule_means.specs.Built.{Built}
+use Rattle.rule_means.proofs.Built.{rule_sets_built}
 use Rattle.run_means.specs.Run.{Ends, Most, Turns, slice_means}
 use Rattle.run_means.specs.Turn.{Visits, Visiting, turn_tells}
 use Rattle.acts_means.specs.Holds.{free_path_of, Holds}
