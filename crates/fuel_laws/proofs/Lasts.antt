@@ -11,7 +11,8 @@ use Rattle.definitions.specs.Visit.{Visited, acted, passed, less_one}
 use Rattle.definitions.specs.Run.{with_items, spent, next, run, fuel}
 use Rattle.dirty_laws.specs.Listed.{unsnoc_snoc}
 use Rattle.engine_laws.specs.Frame.{frame, body, pools_kept, steps_kept}
-use Rattle.engine_laws.specs.Turns.{Counts, turn_counts}
+use Rattle.engine_laws.specs.Turns.{Counts}
+use Rattle.engine_laws.proofs.Turns.{turn_counts}
 use Rattle.good_laws.specs.Good.{Good, rest}
 use Rattle.good_laws.specs.Edits.{Answers}
 use Rattle.good_laws.specs.Idle.{Idle}

@@ -16,7 +16,8 @@ use Rattle.definitions.specs.Visit.{Visited, acted, passed, less_one}
 use Rattle.definitions.specs.Run.{with_items, next, run, fuel, run_slice}
 use Rattle.definitions.specs.Calls.{Held, Workspace, unchanged, zeros, image, Outcome, pools_fit, same_pools, resume, slice, after}
 use Rattle.engine_laws.specs.Frame.{frame, pools_kept}
-use Rattle.engine_laws.specs.Turns.{Counts, turn_counts}
+use Rattle.engine_laws.specs.Turns.{Counts}
+use Rattle.engine_laws.proofs.Turns.{turn_counts}
 use Rattle.good_laws.specs.Edits.{Answers}
 use Rattle.slice_laws.specs.Sums.{total, slices}
 use Rattle.slice_laws.specs.Loop
