@@ -1,6 +1,5 @@
-// A reader: it holds a file and its place in it. Document 01, "a reader that holds the file and its place". The borrow checker covers
-// no function over a struct that holds a slice, so each of them is proved by hand. Each is thin: the work is that of `fields` and
-// `ends`. Past the end a number is 0 and a place is the end, so every method has an answer everywhere.
+// A reader: it holds a file and its place in it. Document 01, "a reader that holds the file and its place". Each method is thin: the
+// work is that of `fields` and `ends`. Past the end a number is 0 and a place is the end, so every method has an answer everywhere.
 #![tactic(auto)]
 
 ghost use Rattle.std.specs.Prelude.{◌+◌, ◌≡◌};

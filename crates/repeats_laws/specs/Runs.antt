@@ -56,6 +56,7 @@ module _ {s : List ℕ} where
   pub alike_not_before : {n a b : ℕ} → Alike s n a b → Before s n a b → ⊥
   alike_not_before (more e g) (here p) = omega arith
   alike_not_before (more e g) (later p h) = alike_not_before g h
+  alike_not_before (none {a = a} {b = b}) x5 = elim x5 [ ]
 
 module _ (s : List ℕ) where
   pub alike_all : (n a b : ℕ) → ((i : ℕ) → i < n → byte s (a + i) ≡ byte s (b + i)) → Alike s n a b

@@ -194,7 +194,7 @@ module _ (Named : ℕ → Name → Type 0) (file sets : List ℕ) (S : List ℕ 
 
       taken_by : Onward k most base → moves ws most s ≡ true → spent n ≡ false → (r : Result Visited) → Tells S e (turn ws file sets) r
           → Ends S base (run ws file sets most s (suc k)) (r >>= λ v. after k n v)
-      taken_by on h x (refuse r) t = refused base s r _ (ap (λ (l : Left Ran). l.is) (run_refused ws most s k h r t))
+      taken_by on h x (refuse r) t = refused base s r (run ws file sets most s (suc k)) (ap (λ (l : Left Ran). l.is) (run_refused ws most s k h r t))
       taken_by on h x (ok (passed e')) t = rw (run_passed ws most s k h t.0) (on n s (turn ws file sets).ws e' t.1 left (b ∙ sym t.2))
       taken_by on h x (ok (acted e')) t =
           let z : Layout.next s ≡ s + 1 = omega (arith, small) in

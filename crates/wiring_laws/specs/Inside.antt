@@ -95,7 +95,7 @@ net_reads paths names =
     bind_reads (many 2 4096 (read_node paths names b)) _ (Each (λ y. Inside b (y.pri ∷ y.aux))) _ (many_reads (read_node paths names b) _ (node_reads b paths names) 2 4096) (λ ns h.
     give_reads Wires (record { name = m; included = i; wires = b; free = fs; pairs = ps; nodes = ns }) (record {
       frees = inside_each b fs f;
-      paired = inside_concat b _ ps g;
-      noded = inside_concat b _ ns h;
+      paired = inside_concat b (λ x'. x'.0 ∷ x'.1 ∷ []) ps g;
+      noded = inside_concat b (λ x'. x'.pri ∷ x'.aux) ns h;
       counter = omega arith;
     })))))))

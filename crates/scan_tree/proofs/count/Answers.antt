@@ -15,7 +15,7 @@ pub loop-c-preserved : goal.loop-c-preserved
 loop-c-preserved c = search counts_more
 
 pub returns-then-s-end : goal.returns-then-s-end
-returns-then-s-end c = ((search counts_nodes, search runs_past), omega arith)
+returns-then-s-end c = record { nodes_value = (search counts_nodes, search runs_past); nodes_in_bounds = omega arith }
 
 pub returns : goal.returns
-returns c = ((search counts_nodes, search runs_end), omega arith)
+returns c = record { nodes_value = (search counts_nodes, search runs_end); nodes_in_bounds = omega arith }

@@ -18,7 +18,7 @@ loop-k-smaller c = omega arith
 pub loop-k-preserved : goal.loop-k-preserved
 loop-k-preserved c =
     let l = c.loop-k in
-    (Spec.told_more _ _ _ _ _ _ c.fits2.ensures _ _ c.if-fits.true c.tally_net.ensures c.net_wired.ensures _ l.k l.invariant.0 (omega arith) c.if-net_wired.true c.next_net-at.ensures, omega arith, omega arith)
+    (Spec.told_more _ _ _ _ _ _ c.fits.ensures _ _ c.if-fits.true c.tally_net.ensures c.net_wired.ensures _ l.k l.invariant.0 (omega arith) c.if-net_wired.true c.next_net-at.ensures, omega arith, omega arith)
 
 pub shape_of-counts-else-net_wired : goal.shape_of-counts-else-net_wired
 shape_of-counts-else-net_wired c = omega arith
@@ -26,7 +26,7 @@ shape_of-counts-else-net_wired c = omega arith
 pub returns-else-net_wired : goal.returns-else-net_wired
 returns-else-net_wired c =
     let l = c.loop-k in
-    left (Spec.told_not _ _ _ _ _ _ c.fits2.ensures _ _ c.if-fits.true c.tally_net.ensures c.net_wired.ensures l.k l.invariant.0 (omega arith) c.if-net_wired.false)
+    left (Spec.told_not _ _ _ _ _ _ c.fits.ensures _ _ c.if-fits.true c.tally_net.ensures c.net_wired.ensures l.k l.invariant.0 (omega arith) c.if-net_wired.false)
 
 pub shape_of-counts-else-fits : goal.shape_of-counts-else-fits
 shape_of-counts-else-fits c = omega arith
