@@ -14,9 +14,9 @@ use Rattle.definitions.specs.State.{Engine, graph_of}
 use Rattle.definitions.specs.Books.{fresh}
 use Rattle.script_laws.specs.Tidy.{WellWired}
 use Rattle.rule_laws.specs.Places.{one_of_two, meet, Clean}
-use Rattle.rule_laws.specs.Annihilate.{annihilate_clean}
-use Rattle.rule_laws.specs.Erase.{erase_clean}
-use Rattle.rule_laws.specs.Commute.{commute_clean}
+use Rattle.rule_laws.proofs.Annihilate.{annihilate_clean}
+use Rattle.rule_laws.proofs.Erase.{erase_clean}
+use Rattle.rule_laws.proofs.Commute.{commute_clean}
 use Rattle.rule_laws.specs.Eta.{eta_clean}
 use Rattle.rule_laws.specs.Order.{InOrder, interact_order, eta_order}
 use Rattle.graph_laws.specs.Dead.{interact_dead}

@@ -25,7 +25,8 @@ use Rattle.dirty_laws.specs.Tests.{eqb_self}
 use Rattle.good_laws.specs.Nets.{over_length}
 use Rattle.good_laws.specs.Good.{Good, made_by, bump, good_extra}
 use Rattle.good_laws.specs.Marks.{fewer_good}
-use Rattle.good_laws.specs.Answers.{awaits_waits, fewer_awaits, wake_awaits, emptied, emptied_waits, emptied_good, made_append, wake_good}
+use Rattle.good_laws.specs.Answers.{awaits_waits, fewer_awaits, wake_awaits, emptied, emptied_waits, made_append, wake_good}
+use Rattle.good_laws.proofs.AnswersLaws.{emptied_good}
 use Rattle.waiter_laws.specs.Waiters.{Waiters, Waited, awaits_length, waiters_append, waited_same, wake_waited, emptied_waited}
 use Rattle.hands.specs.Hand.{held_end}
 use Rattle.means.specs.Means.{Means}

@@ -18,7 +18,8 @@ use Rattle.good_laws.specs.Answers.{awaits, emptied, emptied_waits}
 use Rattle.chains.specs.Seg.{put, put_same, put_other, last, all_last, Mine, Chain}
 use Rattle.chains.specs.Pools.{Root}
 use Rattle.hands.specs.Hand.{Held, held_lists}
-use Rattle.hands.specs.Grasp.{Grasped, root_none, grasped}
+use Rattle.hands.specs.Grasp.{Grasped, root_none}
+use Rattle.hands.proofs.Grasp.{grasped}
 use Rattle.means.specs.Means.{no_net, waits_in, awaiting_of}
 use Rattle.means.specs.Frame.{Rest, rest_set, rest_trans, OutWaits}
 use Rattle.waits_means.specs.Places.{place}

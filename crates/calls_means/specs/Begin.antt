@@ -9,7 +9,7 @@ use Rattle.net_file.specs.Lists.{Result, ok, refuse, need}
 use Rattle.net_file.specs.Values.{FlatNet, File}
 use Rattle.net_file.specs.Checks.{flat, read, write}
 use Rattle.net_file_laws.specs.Bytes.{Bytes}
-use Rattle.net_file_laws.specs.RoundTrip.{flat_write_read}
+use Rattle.net_file_laws.proofs.RoundTrip.{flat_write_read}
 use Rattle.net_check.specs.Verdict.{verdict}
 use Rattle.net_check.specs.declared.Checked.TheVariants.{Accepted}
 use Rattle.net_check.specs.declared.Checked.TheVariants.{Refused as Checked-as-Refused}

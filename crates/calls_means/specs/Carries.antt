@@ -13,7 +13,7 @@ use Rattle.net_file.specs.Lists.{Result, ok, refuse}
 use Rattle.net_file.specs.Values.{FlatNet, File}
 use Rattle.net_file.specs.Checks.{flat, read, write}
 use Rattle.net_file_laws.specs.Bytes.{Bytes}
-use Rattle.net_file_laws.specs.RoundTrip.{flat_write_read}
+use Rattle.net_file_laws.proofs.RoundTrip.{flat_write_read}
 use Rattle.definitions.specs.State.{Pools, Engine}
 use Rattle.definitions.specs.Calls.{Held, Left, unchanged, zeros, image, Outcome, pools_fit, same_pools, resume}
 use Rattle.good_laws.specs.Good.{rest}

@@ -19,7 +19,7 @@ use Rattle.definitions.specs.Run.{run_slice}
 use Rattle.definitions.specs.Calls.{Held, Workspace, Outcome, same_pools, resume, after}
 use Rattle.slice_laws.specs.Sums.{total}
 use Rattle.reached_laws.specs.Calls.{onward, slice_calls, resumes, SumFits}
-use Rattle.reached_laws.specs.Accepted.{slice_calls_compose}
+use Rattle.reached_laws.proofs.Accepted.{slice_calls_compose}
 use Rattle.lent.specs.Lent.{Lent, zero_words, zero_bytes}
 use Rattle.lent.specs.declared.Pools as Lent
 use Rattle.lent.specs.declared.Answer.{Answer}

@@ -30,6 +30,7 @@ use Rattle.script_laws.specs.Safe.{With, Safe}
 use Rattle.script_laws.specs.Loops.{hung}
 use Rattle.rule_laws.specs.Columns.{column}
 use Rattle.rule_laws.specs.Commute as Law
+use Rattle.rule_laws.proofs.Commute as LawProofs
 use Rattle.means.specs.Means.{number}
 use Rattle.good_means.specs.Room.{net_inside_lem}
 use Rattle.script_means.specs.Stage.{Stage, number_aux, number_first, number_principal, stage_join}
@@ -132,4 +133,4 @@ module _ (Named : ℕ → Name → Type 0) (x : ℕ → ℕ) (small : (k : ℕ) 
         (omega arith) (omega arith) net_a net_a
         (name_read Named ws e t.means a p.filled_a) (name_read Named ws e t.means b p.filled_b) (omega arith) (omega arith)
         (arity g a - 1) 0 (omega arith) blank (rows_none _) (cut g (port a 0) (port b 0)) (part ws a b) (with_graph (cut g (port a 0) (port b 0)) e) (With (λ _. ⊥) (port a 0) (port b 0))
-        (part_stage Named x small ws e t a b met) (Law.commuted_tidy (fresh e) g t.wired f a b met).safe.1))
+        (part_stage Named x small ws e t a b met) (LawProofs.commuted_tidy (fresh e) g t.wired f a b met).safe.1))

@@ -16,7 +16,7 @@ use Rattle.net_file.specs.Checks.{flat, read, write, places, pair_wires, pairs_o
 use Rattle.net_file_laws.specs.Bytes.{Bytes}
 use Rattle.net_file_laws.specs.Exact.{Each}
 use Rattle.net_file_laws.specs.Flat.{PairFits, NodeFits, FlatNetFits}
-use Rattle.net_file_laws.specs.RoundTrip.{flat_write_read, flat_read_write}
+use Rattle.net_file_laws.proofs.RoundTrip.{flat_write_read, flat_read_write}
 use Rattle.size_laws.specs.Files.{flat_fits}
 use Rattle.list_laws.specs.Tests.{both, both_are, either}
 use Rattle.list_laws.specs.Lists.{count_none}

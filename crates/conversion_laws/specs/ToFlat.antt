@@ -15,7 +15,7 @@ use Rattle.net_file_laws.specs.Bytes.{Bytes}
 use Rattle.net_file_laws.specs.Exact.{Each}
 use Rattle.net_file_laws.specs.Flat.{PairFits, NodeFits, FlatNetFits}
 use Rattle.net_file_laws.specs.Trees.{TreeFits, LinkFits, TreeNetFits}
-use Rattle.net_file_laws.specs.RoundTrip.{tree_write_read, flat_read_write}
+use Rattle.net_file_laws.proofs.RoundTrip.{tree_write_read, flat_read_write}
 use Rattle.size_laws.specs.Each.{each_append, each_more}
 use Rattle.size_laws.specs.Files.{flat_fits}
 use Rattle.list_laws.specs.Tests.{both, both_are}

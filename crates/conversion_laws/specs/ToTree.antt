@@ -15,7 +15,8 @@ use Rattle.net_file_laws.specs.Exact.{Each}
 use Rattle.net_file_laws.specs.Flat.{NodeFits, FlatNetFits}
 use Rattle.net_file_laws.specs.Trees.{TreeFits, LinkFits, TreeNetFits, listed_trees}
 use Rattle.net_file_laws.specs.Body.{TablesFit}
-use Rattle.net_file_laws.specs.RoundTrip.{FileFits, Spells, flat_write_read, tree_read_write}
+use Rattle.net_file_laws.specs.RoundTrip.{FileFits, Spells}
+use Rattle.net_file_laws.proofs.RoundTrip.{flat_write_read, tree_read_write}
 use Rattle.size_laws.specs.Trees.{tree_fits}
 use Rattle.list_laws.specs.Tests.{both, both_are}
 use Rattle.conversions.specs.Links.{Links, get, canonical, links_of}

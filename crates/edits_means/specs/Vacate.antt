@@ -20,7 +20,8 @@ use Rattle.definitions.specs.Books.{vacated}
 use Rattle.join_laws.specs.Ports.{Frame, no_frame, frame, arity_frame, arity_same, Real}
 use Rattle.script_laws.specs.Slots.{frame_vacate_same, frame_vacate_other, across_slots}
 use Rattle.means.specs.Means.{number, Header, SlotIs, Nodes, NetIs, Means}
-use Rattle.means.specs.Frame.{rest_set, OutNodes, OutNet, real_inside, with_chain, means_nodes, means_own}
+use Rattle.means.specs.Frame.{rest_set, OutNodes, OutNet, real_inside, with_chain, means_nodes}
+use Rattle.means.proofs.Frame.{means_own}
 use Rattle.graph_means.specs.Marks.{mark_means}
 use Rattle.pools_means.specs.Slots.{give_slot_means}
 

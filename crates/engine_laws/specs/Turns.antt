@@ -42,12 +42,8 @@ act_counts s x e h = go (ltb e.steps max_steps) (each edit s.edits e) (edits_fra
     go false r k = omega arith
 
 module _ (x : Outline) where
-  act_if_counts : (o : Option Script) (e : Engine) → frame e ≡ x → Counts x (act_if o e)
-  unfolding act_if
-  act_if_counts none e h = h
-  act_if_counts (some s) e h = act_counts s x e h
 
-  await_counts : (m n : ℕ) (e : Engine) → frame e ≡ x → Counts x (await_net m n e)
+  pub await_counts : (m n : ℕ) (e : Engine) → frame e ≡ x → Counts x (await_net m n e)
   unfolding await_net
   await_counts m n e h = go (ltb (waits e) e.pools.waits)
     where
@@ -61,68 +57,8 @@ module _ (x : Outline) where
       go true = still_frame (more_still k e₁) ∙ still_frame (awaiting_still (λ t. t.awaiting ++ record { node = n; net = k } ∷ []) m e) ∙ h
       go false = omega arith
 
-  graft_counts : (m n : ℕ) (e : Engine) → frame e ≡ x → Counts x (graft_net m n e)
-  unfolding graft_net
-  graft_counts m n e h =
-      let e₁ = tighten_net m e in
-      let free = (net_at e₁ m).home.free in
-      let s = graft_script (fresh e₁) (graph_of e₁) (net_at e₁ m).list.items free n in
-      go (act s e₁) (act_counts s x e₁ (still_frame (tighten_net_still m e) ∙ h)) (graft_fits (graph_of e₁) free n)
-    where
-      go : (r : Result Visited) → Counts x r → (t : Bool) → Counts x (r >>= λ v. need t 13 (ok v))
-      go (ok v) k true = k
-      go (ok v) k false = omega arith
-      go (refuse r) k t = k
-
-  named_counts : (o : Option ℕ) (n : ℕ) (e : Engine) → frame e ≡ x → Counts x (graft_named o n e)
-  unfolding graft_named
-  named_counts none n e h = h
-  named_counts (some m) n e h =
-      either (Counts x) (eqb (net_at e m).pending 0) (graft_net m n e) (await_net m n e) (graft_counts m n e h) (await_counts m n e h)
-
-  child_counts : (cs : List ℕ) (n : ℕ) (e : Engine) → frame e ≡ x → Counts x (graft_child cs n e)
-  unfolding graft_child
-  child_counts [] n e h = omega arith
-  child_counts (c ∷ cs) n e h = named_counts (get_net e c) n e h
-
-  rewrite_counts : (r : Rule) (n : ℕ) (e : Engine) → frame e ≡ x → Counts x (try_rewrite r n e)
-  unfolding try_rewrite try_graft
-  rewrite_counts (graft p lazy) n e h =
-      either (Counts x) (reaches (graph_of e) lazy n) (graft_child (name_of (graph_of e) n).children n e) (ok (passed e))
-      (child_counts (name_of (graph_of e) n).children n e h) h
-  rewrite_counts (annihilate ps) n e h = h
-  rewrite_counts (erase es ns) n e h = h
-  rewrite_counts (commute xs ys) n e h = h
-  rewrite_counts (eta cs vs ns) n e h = act_if_counts (eta_script (fresh e) (graph_of e) vs ns n) e h
-
-  attempt_counts : (t : Try) (e : Engine) → frame e ≡ x → Counts x (attempt t e)
-  unfolding attempt
-  attempt_counts (interaction r a b) e h = act_if_counts (interact r (fresh e) (graph_of e) a b) e h
-  attempt_counts (rewrite r n) e h = rewrite_counts r n e h
-
-  pub attempts_count : (ts : List Try) (e : Engine) → frame e ≡ x → Counts x (attempts ts e)
-  unfolding attempts
-  attempts_count [] e h = h
-  attempts_count (t ∷ ts) e h = go (attempt t e) (attempt_counts t e h) (λ e' h'. attempts_count ts e' h')
-    where
-      go : (r : Result Visited) → Counts x r → ((e' : Engine) → frame e' ≡ x → Counts x (attempts ts e'))
-          → Counts x (r >>= λ v. elim v as (λ _. Result Visited) [ acted e' ↦ ok (acted e') | passed e' ↦ attempts ts e' ])
-      go (ok (acted e')) k f = k
-      go (ok (passed e')) k f = f e' k
-      go (refuse r) k f = k
-
-  leave_counts : (k : ℕ) (r : Result Visited) → Counts x r → Counts x (r >>= λ v. ok (leave k v))
+  pub leave_counts : (k : ℕ) (r : Result Visited) → Counts x r → Counts x (r >>= λ v. ok (leave k v))
   unfolding leave
   leave_counts k (ok (acted e)) h = still_frame (finish_net_still k (fewer k e)) ∙ still_frame (fewer_still k e) ∙ h
   leave_counts k (ok (passed e)) h = still_frame (finish_net_still k (fewer k e)) ∙ still_frame (fewer_still k e) ∙ h
   leave_counts k (refuse r) h = h
-
--- a turn, by whether its entry is live
-pub turn_counts : (n : ℕ) (e : Engine) → Counts (frame e) (turn n e)
-unfolding turn visit with_mark with_slots with_dirty
-turn_counts n e =
-    let e₁ = with_mark n false e in
-    let k = (at (graph_of e) n).net in
-    either (Counts (frame e)) (is_dirty e n) (visit n e₁ >>= λ v. ok (leave k v))
-    (ok (passed (with_dirty (with_stale (e.dirty.stale - 1) e.dirty) e)))
-    (leave_counts (frame e) k (visit n e₁) (attempts_count (frame e) (tries e₁.rules (graph_of e₁) n) e₁ refl)) refl

@@ -20,7 +20,8 @@ use Rattle.net_file.specs.Checks
 use Rattle.net_file_laws.specs.Bytes.{Bytes, length_be}
 use Rattle.net_file_laws.specs.Flat.{FlatNetFits}
 use Rattle.net_file_laws.specs.Body.{TablesFit}
-use Rattle.net_file_laws.specs.RoundTrip.{FileFits, Spells, flat_write_read}
+use Rattle.net_file_laws.specs.RoundTrip.{FileFits, Spells}
+use Rattle.net_file_laws.proofs.RoundTrip.{flat_write_read}
 use Rattle.size_laws.specs.Parts.{counted_size, flat_net_size}
 use Rattle.size_laws.specs.Files.{body_size}
 use Rattle.put.specs.Laws.{put_in_yes}

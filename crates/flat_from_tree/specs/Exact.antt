@@ -15,7 +15,7 @@ use Rattle.net_file.specs.Checks.{flat, tree, nodes_of, trees_of, read, write}
 use Rattle.net_file_laws.specs.Bytes.{Bytes, length_be}
 use Rattle.net_file_laws.specs.Exact.{Each}
 use Rattle.net_file_laws.specs.Trees.{TreeNetFits}
-use Rattle.net_file_laws.specs.RoundTrip.{tree_write_read}
+use Rattle.net_file_laws.proofs.RoundTrip.{tree_write_read}
 use Rattle.conversions.specs.Convert.{◌>>=◌, to_flat}
 use Rattle.conversions.specs.Calls.{map_nets, convert, fitted, to_flat_call}
 use Rattle.fields.specs.Fields.{be16}

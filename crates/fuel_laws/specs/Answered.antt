@@ -20,7 +20,8 @@ use Rattle.good_laws.specs.Owners.{is_of}
 use Rattle.good_laws.specs.Nets.{over_length, over_same, over_other, net_out_lem}
 use Rattle.good_laws.specs.Good.{Good, bump, rest, good_extra, made_by}
 use Rattle.good_laws.specs.Marks.{fewer_good}
-use Rattle.good_laws.specs.Answers.{emptied, emptied_waits, emptied_good, made_append, wake_good, wake_awaits, awaits_waits}
+use Rattle.good_laws.specs.Answers.{emptied, emptied_waits, made_append, wake_good, wake_awaits, awaits_waits}
+use Rattle.good_laws.proofs.AnswersLaws.{emptied_good}
 use Rattle.fuel_laws.specs.Totals.{total, total_most}
 use Rattle.fuel_laws.specs.Weights.{waiter, drawn, weight, drawing, weight_less, waiters_most}
 use Rattle.fuel_laws.specs.Moves.{Lighter, lighter_drawing, fallen_drawing, fewer_lighter, wake_lighter, asleep, wake_awake}

@@ -11,15 +11,16 @@ use Rattle.definitions.specs.Visit.{Visited, acted, passed, less_one}
 use Rattle.definitions.specs.Run.{with_items, spent, next, run, fuel}
 use Rattle.dirty_laws.specs.Listed.{unsnoc_snoc}
 use Rattle.engine_laws.specs.Frame.{frame, body, pools_kept, steps_kept}
-use Rattle.engine_laws.specs.Turns.{Counts, turn_counts}
+use Rattle.engine_laws.specs.Turns.{Counts}
+use Rattle.engine_laws.proofs.Turns.{turn_counts}
 use Rattle.good_laws.specs.Good.{Good, rest}
 use Rattle.good_laws.specs.Edits.{Answers}
 use Rattle.good_laws.specs.Idle.{Idle}
 use Rattle.good_laws.specs.Scripts.{Visits}
 use Rattle.good_laws.specs.Sound.{Condition, Sound, Kept, of_same}
-use Rattle.good_laws.specs.Turn.{turn_kept}
+use Rattle.good_laws.proofs.Turn.{turn_kept}
 use Rattle.slice_laws.specs.Loop.{Lasts, after, taken, run_by, run_by_lem}
-use Rattle.fuel_laws.specs.Measure.{left, left_most, turn_less}
+use Rattle.fuel_laws.specs.Measure.{left, left_most}
 
 -- the pools are in range
 pub record InRange (p : Pools) : Type 0 where
@@ -42,7 +43,7 @@ fuel_of e = (16777216 - e.steps) * 24581 + left e
 refused : (r : ℕ) → r ≢ 0 → Lasts (refuse r)
 refused r d q = d (cc)
 
-answered : (e : Engine) → Lasts (ok e)
+pub answered : (e : Engine) → Lasts (ok e)
 answered e q = let z : ◌≡◌ {A = ℕ} 0 1 = cc in omega arith
 
 module _ (P : Condition) (sound : Sound P) where
@@ -58,7 +59,7 @@ module _ (P : Condition) (sound : Sound P) where
     turn_running (refuse r) c k = tt
 
     -- less is left after it
-    lasts_after : (f : ℕ) (n : Option ℕ) (r : Result Visited) → Counts (frame e) r → Visits Running Running r
+    pub lasts_after : (f : ℕ) (n : Option ℕ) (r : Result Visited) → Counts (frame e) r → Visits Running Running r
         → Visits (λ _. Unit {0}) (λ e'. left e' + 1 ≤ left e) r → fuel_of e < suc f
         → ((n' : Option ℕ) (e' : Engine) → Running e' → fuel_of e' < f → Lasts (run f n' e')) → Lasts (r >>= λ v. after f n v)
     lasts_after f n (ok (acted e')) c k l b ih =
@@ -77,29 +78,6 @@ module _ (P : Condition) (sound : Sound P) where
   pub taken_running : (p : List ℕ × ℕ) (e : Engine) → Running e → e.dirty.items ≡ p.0 ++ p.1 ∷ [] → Visits Running Running (taken p e)
   unfolding with_items with_dirty
   taken_running p e h l = turn_running e h (taken p e) (turn_counts p.1 (with_items p.0 e)) (turn_kept P sound p.0 p.1 e h.0 l)
-
-  lasts_by : (f : ℕ) (n : Option ℕ) (e : Engine) → Running e → fuel_of e < suc f
-      → ((n' : Option ℕ) (e' : Engine) → Running e' → fuel_of e' < f → Lasts (run f n' e'))
-      → (o : Option (List ℕ × ℕ)) → next n e ≡ o → Lasts (run_by f n e o)
-  unfolding with_items with_dirty
-  lasts_by f n e h b ih none q = answered e
-  lasts_by f n e h b ih (some p) q =
-      let l = next_last n e p q in
-      lasts_after e h f n (taken p e) (turn_counts p.1 (with_items p.0 e)) (taken_running p e h l) (turn_less p.0 p.1 e h.0.0 h.0.2 l) b ih
-
-  run_lasts : (f : ℕ) (n : Option ℕ) (e : Engine) → Running e → fuel_of e < f → Lasts (run f n e)
-  run_lasts zero n e h b = absurd (not-suc-le-zero b)
-  run_lasts (suc f) n e h b =
-      subst Lasts (sym (run_by_lem f n e)) (lasts_by f n e h b (λ n' e' h' b'. run_lasts f n' e' h' b') (next n e) refl)
-
-  -- so `fuel` lasts
-  pub fuel_lasts : (n : Option ℕ) (e : Engine) → Running e → Lasts (run fuel n e)
-  unfolding fuel
-  fuel_lasts n e h =
-      let m = left_most rest e h.0.0 in
-      let u = h.1.nodes in
-      let w = h.1.waits in
-      run_lasts fuel n e h (omega arith)
 
   -- and a run keeps what it began with
   module _ (f : ℕ) (ih : (n : Option ℕ) (e : Engine) → Running e → Answers Running (run f n e)) where

@@ -25,7 +25,7 @@ use Rattle.good_laws.specs.Sound.{Condition, Sound, Of}
 use Rattle.slice_laws.specs.Sums.{total, slices}
 use Rattle.slice_laws.specs.Loop.{Lasts, taken, after, run_by, run_by_lem}
 use Rattle.slice_laws.specs.Compose.{slices_compose}
-use Rattle.fuel_laws.specs.Lasts.{InRange, Running, next_last, taken_running, fuel_lasts}
+use Rattle.fuel_laws.specs.Lasts.{InRange, Running, next_last, taken_running}
 
 -- ---- the pools stay
 
@@ -130,11 +130,3 @@ module _ (P : Condition) (sound : Sound P) (p : Pools) (fits : pools_fit p ≡ t
   -- `dirty-bounded`
   pub dirty_bounded : {e : Engine} → Reached p f e → Bounded e
   dirty_bounded {e} r = good_bounded rest e (reached_running r).0.0
-
-  -- `fuel` lasts
-  pub reached_lasts : {e : Engine} (n : Option ℕ) → Reached p f e → Lasts (run fuel n e)
-  reached_lasts {e} n r = fuel_lasts P sound n e (reached_running r)
-
-  -- `slices-compose`, without a condition
-  pub reached_slices : {e : Engine} (ns : List (Option ℕ)) → Reached p f e → slices ns e ≡ run_slice (total ns) e
-  reached_slices {e} ns r = slices_compose ns e (reached_lasts (total ns) r)

@@ -80,7 +80,7 @@ finish_rises x k (n ∷ dead) e g h l =
 -- ---- answers
 
 -- no wait on a net at 0, but for net k
-abbrev IdleBut : ℕ → Engine → Type 0
+abbrev pub IdleBut : ℕ → Engine → Type 0
 IdleBut k e = (j : ℕ) → j ≢ k → j < length e.nets → (net_at e j).pending ≡ 0 → (net_at e j).awaiting ≡ []
 
 -- net k alone has changed
@@ -88,12 +88,12 @@ but_others : (k : ℕ) (e e' : Engine) → length e'.nets ≡ length e.nets → 
 but_others k e e' m o h j d l z =
     ap (λ (t : Net). t.awaiting) (o j d) ∙ h j (subst (λ (c : ℕ). j < c) m l) (sym (ap (λ (t : Net). t.pending) (o j d)) ∙ z)
 
-fewer_but : (k : ℕ) (e : Engine) → Idle e → IdleBut k (fewer k e)
+pub fewer_but : (k : ℕ) (e : Engine) → Idle e → IdleBut k (fewer k e)
 unfolding fewer
 fewer_but k e h = but_others k e (fewer k e) (over_length (λ n. with_pending (n.pending - 1) n) k e) (λ j d. over_other (λ n. with_pending (n.pending - 1) n) k e j d) h
 
 -- its waits are taken
-emptied_idle : (k : ℕ) (e : Engine) → IdleBut k e → Idle (emptied k e)
+pub emptied_idle : (k : ℕ) (e : Engine) → IdleBut k e → Idle (emptied k e)
 unfolding with_awaiting
 emptied_idle k e h j l z = go (ℕ_discrete j k)
   where
@@ -109,7 +109,7 @@ emptied_idle k e h j l z = go (ℕ_discrete j k)
         ap (λ (t : Net). t.awaiting) o ∙ h j d (subst (λ (c : ℕ). j < c) m l) (sym (ap (λ (t : Net). t.pending) o) ∙ z)
 
 -- or it is above 0
-above_idle : (k : ℕ) (e : Engine) → IdleBut k e → (net_at e k).pending ≢ 0 → Idle e
+pub above_idle : (k : ℕ) (e : Engine) → IdleBut k e → (net_at e k).pending ≢ 0 → Idle e
 above_idle k e h a j l z = go (ℕ_discrete j k)
   where
     go : Dec (j ≡ k) → (net_at e j).awaiting ≡ []
@@ -137,32 +137,8 @@ wake_others w e j d = go (holds (graph_of e) w.net w.node) refl
     go true h = over_other (λ n. with_pending (n.pending - 1) n) w.net (mark_dirty w.node e) j d ∙ mark_others w.node w.net e h j d
     go false h = over_other (λ n. with_pending (n.pending - 1) n) w.net e j d
 
-wake_but : (w : Wait) (e : Engine) → Idle e → IdleBut w.net (wake w e)
+pub wake_but : (w : Wait) (e : Engine) → Idle e → IdleBut w.net (wake w e)
 wake_but w e h =
     let q = homes_kept (still_frame (wake_still w e)) in
     let m : length (wake w e).nets ≡ length e.nets = sym (length-map (wake w e).nets (λ (t : Net). t.home)) ∙ ap length q ∙ length-map e.nets (λ (t : Net). t.home) in
     but_others w.net e (wake w e) m (wake_others w e) h
-
-answer_idle : (f : ℕ) (ws : List Wait) (e : Engine) → Idle e → Idle (answer f ws e)
-unfolding answer
-answer_idle zero ws e h = h
-answer_idle (suc f) [] e h = h
-answer_idle (suc f) (w ∷ ws) e h =
-    let e₁ = wake w e in
-    let b = wake_but w e h in
-    go e₁ b (eqb (net_at e₁ w.net).pending 0) refl (λ us e₂ i. answer_idle f us e₂ i)
-  where
-    go : (e₁ : Engine) → IdleBut w.net e₁ → (t : Bool) → eqb (net_at e₁ w.net).pending 0 ≡ t → ((us : List Wait) (e₂ : Engine) → Idle e₂ → Idle (answer f us e₂))
-        → Idle (elim t as (λ _. Engine) [ true ↦ answer f ((net_at e₁ w.net).awaiting ++ ws) (emptied w.net e₁) | false ↦ answer f ws e₁ ])
-    go e₁ b true q r = r ((net_at e₁ w.net).awaiting ++ ws) (emptied w.net e₁) (emptied_idle w.net e₁ b)
-    go e₁ b false q r = r ws e₁ (above_idle w.net e₁ b (eqb-false (net_at e₁ w.net).pending 0 q))
-
--- the visit ends
-pub leave_idle : (k : ℕ) (e : Engine) → Idle e → Idle (finish_edit_net k (fewer k e))
-unfolding finish_edit_net
-leave_idle k e h = go (eqb (net_at (fewer k e) k).pending 0) refl
-  where
-    go : (t : Bool) → eqb (net_at (fewer k e) k).pending 0 ≡ t
-        → Idle (elim t as (λ _. Engine) [ true ↦ answer (waits (fewer k e)) (net_at (fewer k e) k).awaiting (emptied k (fewer k e)) | false ↦ fewer k e ])
-    go true q = answer_idle (waits (fewer k e)) (net_at (fewer k e) k).awaiting (emptied k (fewer k e)) (emptied_idle k (fewer k e) (fewer_but k e h))
-    go false q = above_idle k (fewer k e) (fewer_but k e h) (eqb-false (net_at (fewer k e) k).pending 0 q)

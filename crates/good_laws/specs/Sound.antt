@@ -27,9 +27,9 @@ use Rattle.good_laws.specs.Owners.{owners, net_of}
 use Rattle.good_laws.specs.Good.{Good, bump, rest}
 use Rattle.good_laws.specs.Marks.{fewer_good}
 use Rattle.good_laws.specs.Removed.{tighten_good}
-use Rattle.good_laws.specs.Answers.{finish_net_good}
+
 use Rattle.good_laws.specs.Idle.{Idle, rises_idle, tighten_rises}
-use Rattle.good_laws.specs.Settled.{leave_idle}
+
 use Rattle.good_laws.specs.Scripts.{Orderly, Done, Visits, act_good, await_good}
 use Rattle.good_laws.specs.Turned.{named_below}
 
@@ -144,7 +144,7 @@ module _ (P : Condition) where
     abbrev y : ℕ → ℕ
     y = visiting e₀ n
 
-    abbrev k : ℕ
+    abbrev pub k : ℕ
     k = (at (graph_of e₀) n).net
 
     one : 1 ≤ y k
@@ -242,20 +242,3 @@ module _ (P : Condition) where
             subst (λ (j : ℕ). Tried P e' j t) (sym (net_of (graph_of e) n k o))
             (sound e' n k (counts n e e' b g') (of_same e e' b p) (subst (λ (h : Graph). get_or (owners h) n none ≡ some k) (sym (still_graph b)) o) t
             (subst (λ (z : Body). Memᴰ t (tries z.0.1 z.1 n)) (sym b) m))
-
-    -- the visit has ended
-    pub leave_fine : (n k : ℕ) (e : Engine) → (at (graph_of e) n).net ≡ k → (r : Result Visited) → Fine (visiting e n) e r
-        → Visits (Kept rest) (λ e'. Good rest e' × (body e' ≡ body e) × Idle e') (r >>= λ v. ok (leave k v))
-    unfolding leave
-    leave_fine n k e q (ok (acted e')) h =
-        let s = finish_net_still k (fewer k e') ∙ fewer_still k e' in (
-          finish_net_good rest k (fewer k e') (fewer_good rest k e' (subst (λ (j : ℕ). Good (bump j rest) e') q h.0)),
-          of_same e' (finish_edit_net k (fewer k e')) s h.1,
-          leave_idle k e' h.2,
-        )
-    leave_fine n k e q (ok (passed e')) h = (
-      finish_net_good rest k (fewer k e') (fewer_good rest k e' (subst (λ (j : ℕ). Good (bump j rest) e') q h.0)),
-      finish_net_still k (fewer k e') ∙ fewer_still k e' ∙ h.1,
-      leave_idle k e' h.2,
-    )
-    leave_fine n k e q (refuse r) h = tt

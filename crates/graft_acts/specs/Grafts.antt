@@ -34,7 +34,8 @@ use Rattle.tried.specs.declared.Tried.TheVariants.{Passed, Acted, Refused}
 use Rattle.graft.specs.Graft.{graft}
 use Rattle.run_slice.specs.Run.{count_step}
 use Rattle.means.specs.Frame.{rest_trans}
-use Rattle.waits_means.specs.Await.{Agrees, await_net_good}
+use Rattle.waits_means.specs.Await.{Agrees}
+use Rattle.waits_means.proofs.Await.{await_net_good}
 use Rattle.held_names.specs.Named.{Named}
 use Rattle.rule_means.specs.Built.{Built}
 use Rattle.script_means.specs.Tries.{Between, name_read}

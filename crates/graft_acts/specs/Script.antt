@@ -18,7 +18,7 @@ use Rattle.script_laws.specs.Tidy.{WellWired}
 use Rattle.rule_laws.specs.Ids.{at_mem, place_at, distinct_at, one_of_row}
 use Rattle.rule_laws.specs.Places.{one_of_two, not_fresh}
 use Rattle.rule_laws.specs.Copies.{g₁, copies_other, copy_frame}
-use Rattle.rule_laws.specs.Graft.{graft_clean}
+use Rattle.rule_laws.proofs.Graft.{graft_clean}
 use Rattle.rule_laws.specs.Order.{InOrder, graft_order}
 use Rattle.graph_laws.specs.Nodes.{Brings}
 use Rattle.step_laws.specs.Core.{core_of, list_of}

@@ -21,7 +21,8 @@ use Rattle.waits.specs.declared.Awaited.{Awaited}
 use Rattle.means.specs.Frame.{Rest}
 use Rattle.good_means.specs.Room.{net_inside_lem}
 use Rattle.waits_means.specs.Slots.{filled_below}
-use Rattle.waits_means.specs.Await.{Agrees, await_net_good}
+use Rattle.waits_means.specs.Await.{Agrees}
+use Rattle.waits_means.proofs.Await.{await_net_good}
 use Rattle.held_names.specs.Named.{Named}
 use Rattle.script_means.specs.Tries.{net_read}
 use Rattle.run_means.specs.Count.{LimitFits}

@@ -39,7 +39,8 @@ use Rattle.rule_laws.specs.Places.{not_fresh, new_holes}
 use Rattle.means.specs.Means.{no_net, items_of, Means}
 use Rattle.means.specs.Frame.{rest_set}
 use Rattle.good_means.specs.Room.{listed_room}
-use Rattle.edits_means.specs.Place.{CanPlace, Agrees, place_node_means}
+use Rattle.edits_means.specs.Place.{CanPlace, Agrees}
+use Rattle.edits_means.proofs.Place.{place_node_means}
 use Rattle.script_means.specs.Dead.{Dead, dead_keep}
 use Rattle.script_means.specs.Tries.{name_read, arity_read}
 use Rattle.removal_means.specs.Edited.{place_node_kept}

@@ -25,7 +25,8 @@ use Rattle.good_laws.specs.Scripts.{Visits, await_good}
 use Rattle.fuel_laws.specs.Weights.{named_in, named_in_lem}
 use Rattle.script_laws.specs.Tidy.{WellWired, real_filled}
 use Rattle.means.specs.Frame.{Rest, rest_set, rest_trans}
-use Rattle.waits_means.specs.Await.{Agrees, await_net_good}
+use Rattle.waits_means.specs.Await.{Agrees}
+use Rattle.waits_means.proofs.Await.{await_net_good}
 use Rattle.script_means.specs.Tries.{Between, net_read, name_read}
 use Rattle.names_means.specs.Kept.{Kept}
 use Rattle.visit_means.specs.Tells.{Tells}

@@ -21,7 +21,7 @@ use Rattle.definitions.specs.Rules.{new, hang, annihilate_script, erase_script, 
 use Rattle.definitions.specs.Step.{Acts, interacts, reduces, grafts, Step}
 use Rattle.join_laws.specs.Ports.{frame, arity_frame, arity_same, name_frame, name_same, filled_frame, filled_same}
 use Rattle.join_laws.specs.Link.{frame_cut}
-use Rattle.join_laws.specs.Join.{frame_join}
+use Rattle.join_laws.proofs.Join.{frame_join}
 use Rattle.script_laws.specs.Slots.{frame_fill_same, frame_fill_other, frame_vacate_same, frame_vacate_other}
 use Rattle.script_laws.specs.Tidy.{real_filled}
 use Rattle.rule_laws.specs.Places.{given_some, meet}

@@ -14,11 +14,11 @@ use Rattle.definitions.specs.Step.{rewrites, Fresh, NodesOf, Acts, interacts, re
 use Rattle.join_laws.specs.Ports.{Frame, no_frame, in_net, frame, arity_same, name_same, name_frame, filled_frame, holds_same, holds_frame, across_real}
 use Rattle.script_laws.specs.Tidy.{WellWired}
 use Rattle.rule_laws.specs.Places.{one_of_two, not_fresh, Ported, Clean}
-use Rattle.rule_laws.specs.Annihilate.{annihilate_clean}
-use Rattle.rule_laws.specs.Erase.{erase_clean}
-use Rattle.rule_laws.specs.Commute.{commute_clean}
+use Rattle.rule_laws.proofs.Annihilate.{annihilate_clean}
+use Rattle.rule_laws.proofs.Erase.{erase_clean}
+use Rattle.rule_laws.proofs.Commute.{commute_clean}
 use Rattle.rule_laws.specs.Eta.{eta_clean}
-use Rattle.rule_laws.specs.Graft.{graft_clean}
+use Rattle.rule_laws.proofs.Graft.{graft_clean}
 use Rattle.graph_laws.specs.Dead.{interact_dead, Goes, eta_dead}
 
 -- net k's free node: a node of that net, its ports 0 and 1 wired together
@@ -121,11 +121,3 @@ module _ (rules : List Rule) (homes : List Home) (path : ℕ) (unnamed : Unnamed
 
       kept : FreeKept homes g (apply_script g s)
       kept k h is = arity_same g (apply_script g s) h.free (same k h is)
-
--- `wired`: a step leaves every net well wired, its free node's ports 0 and 1 wired together
-pub step_wired : (rules : List Rule) (homes : List Home) (path : ℕ) → Unnamed path rules → (g h : Graph) → Rest path homes g → Step rules homes g h → Rest path homes h
-step_wired rules homes path u g h r s = subst (Rest path homes) (sym s.done) (acts_rest rules homes path u g r s.fresh s.is_fresh s.copied s.script s.acts).0
-
--- `free-kept`: and with as many free ports as it had
-pub step_free_kept : (rules : List Rule) (homes : List Home) (path : ℕ) → Unnamed path rules → (g h : Graph) → Rest path homes g → Step rules homes g h → FreeKept homes g h
-step_free_kept rules homes path u g h r s = subst (FreeKept homes g) (sym s.done) (acts_rest rules homes path u g r s.fresh s.is_fresh s.copied s.script s.acts).1

@@ -23,7 +23,8 @@ use Rattle.definitions.specs.Books.{push, is_dirty, push_dirty, mark_dirty}
 use Rattle.join_laws.specs.Ports.{frame, frame_of, filled_frame}
 use Rattle.script_laws.specs.Slots.{frame_slot}
 use Rattle.means.specs.Means.{Header, SlotIs, Nodes, Marks, Dirty, NetIs, Means}
-use Rattle.means.specs.Frame.{Rest, rest_set, rest_trans, OutNet, OutMarks, OutDirty, means_mark, means_dirty, means_own}
+use Rattle.means.specs.Frame.{Rest, rest_set, rest_trans, OutNet, OutMarks, OutDirty, means_mark, means_dirty}
+use Rattle.means.proofs.Frame.{means_own}
 
 module _ (Named : ℕ → Name → Type 0) (ws : List ℕ) (e : Engine) (m : Means Named ws e) where
   -- net k's pending number is v

@@ -19,7 +19,8 @@ use Rattle.definitions.specs.Books.{mark_dirty, mark_ends, link}
 use Rattle.engine_laws.specs.Frame.{still_graph, mark_still}
 use Rattle.join_laws.specs.Ports.{same_port_lem, port_discrete, Frame, frame, frame_wire, arity_same, filled_same, Real, across_wire_same, across_wire_other, real_wire, across_real}
 use Rattle.join_laws.specs.Link.{Wired, End, follow_end, filled, hole}
-use Rattle.join_laws.specs.Join.{join_cases, frame_join}
+use Rattle.join_laws.specs.Join.{join_cases}
+use Rattle.join_laws.proofs.Join.{frame_join}
 use Rattle.script_laws.specs.Tidy.{real_filled}
 use Rattle.means.specs.Means.{number, Header, SlotIs, Nodes, Means}
 use Rattle.means.specs.Frame.{Rest, rest_set, OutNodes, real_inside, means_nodes}

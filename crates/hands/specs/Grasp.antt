@@ -106,17 +106,17 @@ root_none {v = v} {own} {t} {l} {x} r e = go l r.chain r.items
 
 module _ {A : Type 0} {v w : View A} {m : ℕ} {x : ℕ → List A} {h : ℕ} {y : List A} {z total : ℕ} (t rest : ℕ) (p : Held v m x h y z total) (few : m ≤ 256) (i : t < m)
     (some : v.head t ≢ 0) (k : Grasped v w m t h) (sum : total ≡ length (x t) + rest) where
-  root : Root v p.own t (p.places t) (x t)
+  pub root : Root v p.own t (p.places t) (x t)
   root = p.nets t i
 
-  own'' : ℕ → ℕ
+  pub own'' : ℕ → ℕ
   own'' = retag p.own t 257
 
   -- the last place of t is none of another's
   not_last : (s d : ℕ) → s ≢ t → Mine p.own (v.used + 1) s d → d ≢ v.tail t
   not_last s d n j q = last_not root.chain n (rw (← root.tail, ← q) j)
 
-  other'' : (s g g' e : ℕ) (l : List ℕ) → s ≢ t → g' ≡ g → Chain v.after p.own (v.used + 1) s g l e → Chain w.after own'' (w.used + 1) s g' l e
+  pub other'' : (s g g' e : ℕ) (l : List ℕ) → s ≢ t → g' ≡ g → Chain v.after p.own (v.used + 1) s g l e → Chain w.after own'' (w.used + 1) s g' l e
   unfolding own''
   other'' s g g' e l n q c =
       let a : Chain w.after p.own (v.used + 1) s g l e = chain_keep c w.after p.own (v.used + 1) (λ d j. j) (λ d j. k.afters d j.pos j.below (not_last s d n j)) in
@@ -125,7 +125,7 @@ module _ {A : Type 0} {v w : View A} {m : ℕ} {x : ℕ → List A} {h : ℕ} {y
   last_is : last (p.places t) 0 ≡ v.tail t
   last_is = sym root.tail
 
-  joined : Chain w.after own'' (w.used + 1) 257 (v.head t) (p.places t ++ p.hand) z
+  pub joined : Chain w.after own'' (w.used + 1) 257 (v.head t) (p.places t ++ p.hand) z
   unfolding own''
   joined =
       let bent : Chain w.after p.own (v.used + 1) t (v.head t) (p.places t) h
@@ -138,31 +138,3 @@ module _ {A : Type 0} {v w : View A} {m : ℕ} {x : ℕ → List A} {h : ℕ} {y
       none : (l : List ℕ) → Chain v.after p.own (v.used + 1) t (v.head t) l 0 → last l 0 ≡ 0 → ⊥
       none [] c e = some c.seg
       none (d ∷ l) c e = let j = (all_last (Mine p.own (v.used + 1) t) d l c.mine).pos in omega arith
-
-  -- net t's chain is in hand, in front
-  pub grasped : Held w m (put x t []) (v.head t) (x t ++ y) z rest
-  grasped = record {
-    own = own'';
-    places = put p.places t [];
-    freed = p.freed;
-    hand = p.places t ++ p.hand;
-    nets = λ u j. go u j (ℕ_discrete u t);
-    free = other'' 256 v.first w.first 0 p.freed (omega arith) k.first p.free;
-    chain = joined;
-    items = map-append w.node (p.places t) p.hand
-        ∙ (λ q. (items_same v.node w.node (p.places t) root.chain.mine (λ d j. k.node d j.pos j.below) ∙ root.items) q
-        ++ (items_same v.node w.node p.hand p.chain.mine (λ d j. k.node d j.pos j.below) ∙ p.items) q);
-    all = let a = p.all in let u = k.used in let l = length-append (x t) y in omega arith;
-  }
-    where
-      go : (u : ℕ) → u < m → Dec (u ≡ t) → Root w own'' u (put p.places t [] u) (put x t [] u)
-      go u j (yes d) = rw (d, put_same p.places t [], put_same x t []) (record {
-        chain = rw k.head (chain_none w.after own'' (w.used + 1) t 0);
-        tail = k.tail;
-        items = refl;
-      })
-      go u j (no d) = let r = p.nets u j in rw (put_other p.places t [] u d, put_other x t [] u d) (record {
-        chain = other'' u (v.head u) (w.head u) 0 (p.places u) d (k.heads u j d) r.chain;
-        tail = k.tails u j d ∙ r.tail;
-        items = items_same v.node w.node (p.places u) r.chain.mine (λ q s. k.node q s.pos s.below) ∙ r.items;
-      })

@@ -18,7 +18,7 @@ use Rattle.net_file.specs.Checks.{flat, same_name, pairs_ordered, ordered, read}
 use Rattle.net_file_laws.specs.Bytes.{Bytes}
 use Rattle.net_file_laws.specs.Exact.{Each}
 use Rattle.net_file_laws.specs.Flat.{FlatNetFits}
-use Rattle.net_file_laws.specs.RoundTrip.{flat_write_read}
+use Rattle.net_file_laws.proofs.RoundTrip.{flat_write_read}
 use Rattle.layout.specs.Layout.{net_by_name}
 use Rattle.definitions.specs.Lists.{keep, up_to}
 use Rattle.definitions.specs.Nets.{Home}

@@ -9,7 +9,7 @@ use Rattle.net_file.specs.Checks.{same_name, rule_paths, names_free, free_named,
 use Rattle.net_file_laws.specs.Bytes.{Bytes}
 use Rattle.net_file_laws.specs.Exact.{Each}
 use Rattle.net_file_laws.specs.Rules.{RuleFits}
-use Rattle.net_file_laws.specs.RoundTrip.{flat_write_read}
+use Rattle.net_file_laws.proofs.RoundTrip.{flat_write_read}
 use Rattle.list_laws.specs.Lists.{eqs_eq}
 use Rattle.definitions.specs.Lists.{place}
 use Rattle.definitions.specs.Load.{with_free_path, free_name}

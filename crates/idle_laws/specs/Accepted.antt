@@ -17,6 +17,7 @@ use Rattle.good_laws.specs.Edits.{Answers}
 use Rattle.good_laws.specs.Scripts.{Visits}
 use Rattle.fuel_laws.specs.Lasts.{next_last}
 use Rattle.fuel_laws.specs.Reached
+use Rattle.fuel_laws.proofs.Reached as ReachedProofs
 use Rattle.fuel_laws.specs.Reached.{Reached, loads, turns, leaves, run_reached}
 use Rattle.reached_laws.specs.Wires.{Wires, wires_sound}
 use Rattle.reached_laws.specs.Accepted.{free_number, begins}

@@ -14,7 +14,7 @@ use Rattle.definitions.specs.Load.{End, ends_at, join_met, load_nodes, load_net,
 use Rattle.engine_laws.specs.Frame.{still_graph, mark_still}
 use Rattle.join_laws.specs.Ports.{frame, filled_same, across_real}
 use Rattle.join_laws.specs.Link.{frame_cut}
-use Rattle.join_laws.specs.Join.{frame_join}
+use Rattle.join_laws.proofs.Join.{frame_join}
 use Rattle.script_laws.specs.Slots.{frame_fill_other}
 use Rattle.script_laws.specs.Tidy.{real_filled}
 use Rattle.graph_laws.specs.Rest.{named_filled}

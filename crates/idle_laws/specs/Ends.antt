@@ -9,7 +9,8 @@ use Rattle.definitions.specs.State.{Engine, with_dirty}
 use Rattle.definitions.specs.Visit.{Visited, acted, passed, less_one}
 use Rattle.definitions.specs.Run.{with_items, spent, next, run, fuel, run_slice}
 use Rattle.engine_laws.specs.Frame.{frame, steps_kept}
-use Rattle.engine_laws.specs.Turns.{Counts, turn_counts}
+use Rattle.engine_laws.specs.Turns.{Counts}
+use Rattle.engine_laws.proofs.Turns.{turn_counts}
 use Rattle.step_laws.specs.Counting.{less}
 use Rattle.good_laws.specs.Edits.{Answers}
 use Rattle.slice_laws.specs.Loop.{after, taken, run_by, run_by_lem}

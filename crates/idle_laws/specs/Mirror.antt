@@ -17,7 +17,8 @@ use Rattle.dirty_laws.specs.Listed.{went_stale}
 use Rattle.engine_laws.specs.Frame.{either, still_graph, mark_still, ends_still}
 use Rattle.join_laws.specs.Ports.{Frame, no_frame, port_discrete, frame, frame_wire, arity_frame, name_frame, arity_same, name_same, net_same, filled_same, filled_frame, across_wire_same, across_wire_other, across_real}
 use Rattle.join_laws.specs.Link.{frame_cut}
-use Rattle.join_laws.specs.Join.{join_cases, frame_join}
+use Rattle.join_laws.specs.Join.{join_cases}
+use Rattle.join_laws.proofs.Join.{frame_join}
 use Rattle.script_laws.specs.Slots.{frame_fill_same, frame_fill_other, across_fill_same, across_fill_other, across_slots, frame_vacate_same, frame_vacate_other}
 use Rattle.good_laws.specs.Good.{Good}
 use Rattle.good_laws.specs.Marks.{below_slots}

@@ -11,7 +11,7 @@ use Rattle.net_file.specs.Lists.{ok, all, ascend, distinct, eqs}
 use Rattle.net_file.specs.Values.{FlatNet, File}
 use Rattle.net_file.specs.Checks.{flat, same_name, pairs_ordered, ordered, read}
 use Rattle.net_file_laws.specs.Bytes.{Bytes}
-use Rattle.net_file_laws.specs.RoundTrip.{flat_write_read}
+use Rattle.net_file_laws.proofs.RoundTrip.{flat_write_read}
 use Rattle.definitions.specs.Lists.{nth, keep, find, from}
 use Rattle.definitions.specs.Nets.{Home}
 use Rattle.definitions.specs.Load.{included}

@@ -32,11 +32,11 @@ pub cut_other : (g : Graph) (a b r : Port) → r ≢ a → r ≢ b → across (c
 unfolding cut
 cut_other g a b r m n = across_wire_other (wire g a none) b none r n ∙ across_wire_other g a none r m
 
-cut_second : (g : Graph) (a b : Port) → Real g b → across (cut g a b) b ≡ none
+pub cut_second : (g : Graph) (a b : Port) → Real g b → across (cut g a b) b ≡ none
 unfolding cut
 cut_second g a b h = across_wire_same (wire g a none) b none (real_wire g a none b h)
 
-cut_first : (g : Graph) (a b : Port) → Real g a → a ≢ b → across (cut g a b) a ≡ none
+pub cut_first : (g : Graph) (a b : Port) → Real g a → a ≢ b → across (cut g a b) a ≡ none
 unfolding cut
 cut_first g a b h n = across_wire_other (wire g a none) b none a n ∙ across_wire_same g a none h
 
@@ -62,11 +62,11 @@ follow_end g a = go (across g a) refl
 -- a wiring, and two ports that exist
 module _ (g : Graph) (w : Wired g) where
   -- only a is across from a's end, and only a's end is across from a
-  to_end : (a a' r : Port) → End g a a' → across g r ≡ some a' → r ≡ a
+  pub to_end : (a a' r : Port) → End g a a' → across g r ≡ some a' → r ≡ a
   to_end a a' r (filled e) x = let y = w.back r a' x in let z = w.back a a' e in cc
   to_end a a' r (hole e s) x = absurd (differ (sym e ∙ subst (λ (t : Port). across g t ≡ some r) s (w.back r a' x)))
 
-  from_end : (a a' r : Port) → End g a a' → across g a ≡ some r → r ≡ a'
+  pub from_end : (a a' r : Port) → End g a a' → across g a ≡ some r → r ≡ a'
   from_end a a' r (filled e) x = cc
   from_end a a' r (hole e s) x = absurd (differ (sym e ∙ x))
 
@@ -74,13 +74,13 @@ module _ (g : Graph) (w : Wired g) where
   end_real a a' h (filled e) = across_real g a' a (w.back a a' e)
   end_real a a' h (hole e s) = subst (Real g) (sym s) h
 
-  end_net : (a a' : Port) → End g a a' → (at g a'.node).net ≡ (at g a.node).net
+  pub end_net : (a a' : Port) → End g a a' → (at g a'.node).net ≡ (at g a.node).net
   end_net a a' (filled e) = sym (w.within a a' e)
   end_net a a' (hole e s) = ap (λ (p : Port). (at g p.node).net) s
 
   module _ (a b : Port) (ra : Real g a) (rb : Real g b) (a≢b : a ≢ b) where
     -- what the cut leaves is as it was, and is not a or b
-    left : (p q : Port) → across (cut g a b) p ≡ some q → (p ≢ a) × (p ≢ b) × (across g p ≡ some q)
+    pub left : (p q : Port) → across (cut g a b) p ≡ some q → (p ≢ a) × (p ≢ b) × (across g p ≡ some q)
     left p q e = go (port_discrete p a) (port_discrete p b)
       where
         go : Dec (p ≡ a) → Dec (p ≡ b) → (p ≢ a) × (p ≢ b) × (across g p ≡ some q)
@@ -117,7 +117,7 @@ module _ (g : Graph) (w : Wired g) where
     -- ---- the ends a' and b' are wired: a and b are not wired together
 
     module _ (a' b' : Port) (ea : End g a a') (eb : End g b b') (open' : a' ≢ b) where
-      ends_differ : a' ≢ b'
+      pub ends_differ : a' ≢ b'
       ends_differ s = go eb
         where
           go : End g b b' → ⊥
@@ -127,109 +127,18 @@ module _ (g : Graph) (w : Wired g) where
       abbrev pub linked : Graph
       linked = wire (wire (cut g a b) a' (some b')) b' (some a')
 
-      at_b : across linked b' ≡ some a'
+      pub at_b : across linked b' ≡ some a'
       at_b = across_wire_same (wire (cut g a b) a' (some b')) b' (some a') (real_wire (cut g a b) a' (some b') b' (real_cut g a b b' (end_real b b' rb eb)))
 
-      at_a : across linked a' ≡ some b'
+      pub at_a : across linked a' ≡ some b'
       at_a = across_wire_other (wire (cut g a b) a' (some b')) b' (some a') a' ends_differ ∙ across_wire_same (cut g a b) a' (some b') (real_cut g a b a' (end_real a a' ra ea))
 
-      off : (r : Port) → r ≢ b' → r ≢ a' → across linked r ≡ across (cut g a b) r
+      pub off : (r : Port) → r ≢ b' → r ≢ a' → across linked r ≡ across (cut g a b) r
       off r m n = across_wire_other (wire (cut g a b) a' (some b')) b' (some a') r m ∙ across_wire_other (cut g a b) a' (some b') r n
 
-      pub link_back : (p q : Port) → across linked p ≡ some q → across linked q ≡ some p
-      link_back p q e = go (port_discrete p b') (port_discrete p a')
-        where
-          go : Dec (p ≡ b') → Dec (p ≡ a') → across linked q ≡ some p
-          go (yes m) d =
-              let x : across linked b' ≡ some q = subst (λ (t : Port). across linked t ≡ some q) m e in
-              let s : q ≡ a' = some-injective q a' (sym x ∙ at_b) in
-              subst (λ (t : Port). across linked t ≡ some p) (sym s) (at_a ∙ ap {B = Option Port} some (sym m))
-          go (no m) (yes n) =
-              let x : across linked a' ≡ some q = subst (λ (t : Port). across linked t ≡ some q) n e in
-              let s : q ≡ b' = some-injective q b' (sym x ∙ at_a) in
-              subst (λ (t : Port). across linked t ≡ some p) (sym s) (at_b ∙ ap {B = Option Port} some (sym n))
-          go (no m) (no n) =
-              let l = left p q (sym (off p m n) ∙ e) in
-              let x = w.back p q l.2 in
-              let q≢b' : q ≢ b' = λ s. l.1 (to_end b b' p eb (l.2 ∙ ap {B = Option Port} some s)) in
-              let q≢a' : q ≢ a' = λ s. l.0 (to_end a a' p ea (l.2 ∙ ap {B = Option Port} some s)) in
-              let q≢a : q ≢ a = λ s. n (from_end a a' p ea (subst (λ (t : Port). across g t ≡ some p) s x)) in
-              let q≢b : q ≢ b = λ s. m (from_end b b' p eb (subst (λ (t : Port). across g t ≡ some p) s x)) in
-              off q q≢b' q≢a' ∙ cut_other g a b q q≢a q≢b ∙ x
-
-      full_end : (c c' r : Port) → End g c c' → r ≡ c' → r ≢ c → is_some (across g r) ≡ true
+      pub full_end : (c c' r : Port) → End g c c' → r ≡ c' → r ≢ c → is_some (across g r) ≡ true
       full_end c c' r (filled e) s n = ap is_some (ap (across g) s ∙ w.back c c' e)
       full_end c c' r (hole e t) s n = absurd (n (s ∙ t))
 
-      pub link_others : (r : Port) → r ≢ a → r ≢ b → is_some (across linked r) ≡ is_some (across g r)
-      link_others r m n = go (port_discrete r b') (port_discrete r a')
-        where
-          go : Dec (r ≡ b') → Dec (r ≡ a') → is_some (across linked r) ≡ is_some (across g r)
-          go (yes s) d = ap is_some (ap (across linked) s ∙ at_b) ∙ sym (full_end b b' r eb s n)
-          go (no s) (yes t) = ap is_some (ap (across linked) t ∙ at_a) ∙ sym (full_end a a' r ea t m)
-          go (no s) (no t) = ap is_some (off r s t ∙ cut_other g a b r m n)
-
-      pub link_first : is_some (across linked a) ≡ not (is_some (across g a))
-      link_first = go ea
-        where
-          back : a ≡ b' → across g a ≡ some b
-          back s = via eb
-            where
-              via : End g b b' → across g a ≡ some b
-              via (filled f) = w.back b a (f ∙ ap {B = Option Port} some (sym s))
-              via (hole f t) = absurd (a≢b (s ∙ t))
-
-          go : End g a a' → is_some (across linked a) ≡ not (is_some (across g a))
-          go (hole e s) = ap is_some (ap (across linked) (sym s) ∙ at_a) ∙ sym (ap (λ (o : Option Port). not (is_some o)) e)
-          go (filled e) =
-              let n : a ≢ a' = λ s. w.apart a (e ∙ ap {B = Option Port} some (sym s)) in
-              let m : a ≢ b' = λ s. open' (some-injective a' b (sym e ∙ back s)) in
-              ap is_some (off a m n ∙ cut_first g a b ra a≢b) ∙ sym (ap (λ (o : Option Port). not (is_some o)) e)
-
-      pub link_second : is_some (across linked b) ≡ not (is_some (across g b))
-      link_second = go eb
-        where
-          go : End g b b' → is_some (across linked b) ≡ not (is_some (across g b))
-          go (hole e s) = ap is_some (ap (across linked) (sym s) ∙ at_b) ∙ sym (ap (λ (o : Option Port). not (is_some o)) e)
-          go (filled e) =
-              let m : b ≢ b' = λ s. w.apart b (e ∙ ap {B = Option Port} some (sym s)) in
-              let n : b ≢ a' = λ s. open' (sym s) in
-              ap is_some (off b m n ∙ cut_second g a b rb) ∙ sym (ap (λ (o : Option Port). not (is_some o)) e)
-
-      pub link_apart : (p : Port) → across linked p ≢ some p
-      link_apart p e = go (port_discrete p b') (port_discrete p a')
-        where
-          go : Dec (p ≡ b') → Dec (p ≡ a') → ⊥
-          go (yes s) d = ends_differ (some-injective a' b' (sym at_b ∙ ap (across linked) (sym s) ∙ e ∙ ap {B = Option Port} some s))
-          go (no s) (yes t) = ends_differ (sym (some-injective b' a' (sym at_a ∙ ap (across linked) (sym t) ∙ e ∙ ap {B = Option Port} some t)))
-          go (no s) (no t) = let l = left p p (sym (off p s t) ∙ e) in w.apart p l.2
-
-      frame_linked : (n : ℕ) → frame linked n ≡ frame g n
+      pub frame_linked : (n : ℕ) → frame linked n ≡ frame g n
       frame_linked n = frame_wire (wire (cut g a b) a' (some b')) b' (some a') n ∙ frame_wire (cut g a b) a' (some b') n ∙ frame_cut g a b n
-
-      net_linked : (n : ℕ) → (at linked n).net ≡ (at g n).net
-      net_linked n = net_same g linked n (frame_linked n)
-
-      pub link_within : (at g a.node).net ≡ (at g b.node).net → (p q : Port) → across linked p ≡ some q → (at linked p.node).net ≡ (at linked q.node).net
-      link_within one p q e = net_linked p.node ∙ go (port_discrete p b') (port_discrete p a') ∙ sym (net_linked q.node)
-        where
-          net : Port → ℕ
-          net r = (at g r.node).net
-
-          go : Dec (p ≡ b') → Dec (p ≡ a') → (at g p.node).net ≡ (at g q.node).net
-          go (yes m) d =
-              let s : q ≡ a' = some-injective q a' (sym (ap (across linked) (sym m) ∙ e) ∙ at_b) in
-              ap net m ∙ end_net b b' eb ∙ sym one ∙ sym (end_net a a' ea) ∙ sym (ap net s)
-          go (no m) (yes n) =
-              let s : q ≡ b' = some-injective q b' (sym (ap (across linked) (sym n) ∙ e) ∙ at_a) in
-              ap net n ∙ end_net a a' ea ∙ one ∙ sym (end_net b b' eb) ∙ sym (ap net s)
-          go (no m) (no n) = w.within p q (left p q (sym (off p m n) ∙ e)).2
-
-      -- a wire away from a and b stays
-      pub link_kept : (p q : Port) → across g p ≡ some q → p ≢ a → p ≢ b → q ≢ a → q ≢ b → across linked p ≡ some q
-      link_kept p q e p≢a p≢b q≢a q≢b =
-          off p (λ s. q≢b (to_end' b b' eb s p≢b)) (λ s. q≢a (to_end' a a' ea s p≢a)) ∙ cut_other g a b p p≢a p≢b ∙ e
-        where
-          to_end' : (c c' : Port) → End g c c' → p ≡ c' → p ≢ c → q ≡ c
-          to_end' c c' (filled x) s n = some-injective q c (sym e ∙ ap (across g) s ∙ w.back c c' x)
-          to_end' c c' (hole x t) s n = absurd (n (s ∙ t))

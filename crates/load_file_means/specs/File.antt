@@ -20,7 +20,8 @@ use Rattle.net_file.specs.Checks.{flat, same_name, pairs_ordered, ordered, wired
 use Rattle.net_file_laws.specs.Bytes.{Bytes}
 use Rattle.net_file_laws.specs.Exact.{Each}
 use Rattle.net_file_laws.specs.Flat.{FlatNetFits}
-use Rattle.net_file_laws.specs.RoundTrip.{Spells, flat_write_read}
+use Rattle.net_file_laws.specs.RoundTrip.{Spells}
+use Rattle.net_file_laws.proofs.RoundTrip.{flat_write_read}
 use Rattle.definitions.specs.Lists.{keep}
 use Rattle.definitions.specs.State.{Pools}
 use Rattle.definitions.specs.Load.{free_name, included, load}

@@ -19,7 +19,8 @@ use Rattle.net_file_laws.specs.Exact.{Each}
 use Rattle.net_file_laws.specs.Parts.{NameFits}
 use Rattle.net_file_laws.specs.Rules.{RuleFits}
 use Rattle.net_file_laws.specs.Flat.{NodeFits, FlatNetFits}
-use Rattle.net_file_laws.specs.RoundTrip.{Spells, flat_write_read}
+use Rattle.net_file_laws.specs.RoundTrip.{Spells}
+use Rattle.net_file_laws.proofs.RoundTrip.{flat_write_read}
 use Rattle.definitions.specs.Lists.{◌>>=◌, is_some, or_else, keep, find, place, each, nth, from}
 use Rattle.definitions.specs.Nets.{Port, Node, Graph, Home, nowhere, at, filled, holds, arity, across}
 use Rattle.definitions.specs.Scripts.{Edit, Join}

@@ -17,7 +17,7 @@ use Rattle.definitions.specs.Nets.{Port, Graph, port}
 use Rattle.definitions.specs.Scripts.{Edit, Join, join, apply}
 use Rattle.definitions.specs.Load.{canonical, End, ends_at, join_met}
 use Rattle.join_laws.specs.Ports.{frame}
-use Rattle.join_laws.specs.Join.{frame_join}
+use Rattle.join_laws.proofs.Join.{frame_join}
 use Rattle.load_laws.specs.Twice.{twice}
 use Rattle.load_laws.specs.Meets.{of_wire, of_wire_append, PortsApart}
 

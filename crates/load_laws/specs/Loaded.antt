@@ -21,7 +21,8 @@ use Rattle.definitions.specs.State.{Net, Pools, Engine, graph_of, new_net, with_
 use Rattle.definitions.specs.Books.{fresh, edit}
 use Rattle.definitions.specs.Load.{ends_at, join_met, load_nodes, load_net, add_flat_net}
 use Rattle.join_laws.specs.Ports.{frame, name_same, holds_same, holds_frame, in_net, Frame}
-use Rattle.script_laws.specs.Tidy.{WellWired, tidy_wired, frame_kept, wire_kept, ported_kept}
+use Rattle.script_laws.specs.Tidy.{WellWired, frame_kept, ported_kept}
+use Rattle.script_laws.proofs.Tidy.{tidy_wired, wire_kept}
 use Rattle.graph_laws.specs.Rest.{Rest, FreeNode, holds_filled}
 use Rattle.step_laws.specs.Core.{Core, core_of, home_of, list_of}
 use Rattle.step_laws.specs.Track.{list_at, Tracked, placed_in}

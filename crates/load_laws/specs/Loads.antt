@@ -17,11 +17,14 @@ use Rattle.definitions.specs.Step.{Fresh}
 use Rattle.definitions.specs.Load.{End, ends_at, join_met, load_nodes, load_net}
 use Rattle.join_laws.specs.Ports.{Frame, no_frame, in_net, frame, arity_frame, arity_same, name_frame, net_frame, net_same, holds_frame, filled_same, Real, across_wire_same, across_wire_other, real_wire}
 use Rattle.join_laws.specs.Link.{Wired, frame_cut}
-use Rattle.join_laws.specs.Join.{join_cases, frame_join}
+use Rattle.join_laws.specs.Join.{join_cases}
+use Rattle.join_laws.proofs.Join.{frame_join}
 use Rattle.script_laws.specs.Slots.{frame_fill_same, frame_fill_other, across_fill, across_vacant}
-use Rattle.script_laws.specs.Safe.{With, was, first, second, Safe, Turns, safe_same, safe_append, edit_wired, edits_still, frame_edits, Born}
+use Rattle.script_laws.specs.Safe.{With, was, first, second, Safe, Turns, edit_wired, frame_edits, Born}
+use Rattle.script_laws.proofs.Safe.{safe_same, safe_append, edits_still}
 use Rattle.script_laws.specs.Loops.{Or, left, right, safe_end}
-use Rattle.script_laws.specs.Tidy.{WellWired, Tidy, tidy_wired, frame_kept, wire_kept, ported_kept}
+use Rattle.script_laws.specs.Tidy.{WellWired, Tidy, frame_kept, ported_kept}
+use Rattle.script_laws.proofs.Tidy.{tidy_wired, wire_kept}
 use Rattle.rule_laws.specs.Places.{Ported, new_holes}
 use Rattle.load_laws.specs.Meets.{of_wire, of_wire_append, of_wire_mem, PortsApart, Joined, UsedBy, meets_safe}
 use Rattle.load_laws.specs.Ends.{ends_mem, ends_at_lem, ends_apart, frame_join_met, node_ends, met_after, met_kept, all_ends, all_count}

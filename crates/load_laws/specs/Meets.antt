@@ -13,8 +13,9 @@ use Rattle.definitions.specs.Nets.{Port, Graph, at}
 use Rattle.definitions.specs.Scripts.{Edit, Join, join, apply}
 use Rattle.definitions.specs.Load.{End, join_met}
 use Rattle.join_laws.specs.Ports.{frame, arity_same, net_same, Real}
-use Rattle.join_laws.specs.Join.{frame_join}
-use Rattle.script_laws.specs.Safe.{With, was, first, second, Safe, safe_same}
+use Rattle.join_laws.proofs.Join.{frame_join}
+use Rattle.script_laws.specs.Safe.{With, was, first, second, Safe}
+use Rattle.script_laws.proofs.Safe.{safe_same}
 use Rattle.script_laws.specs.Loops.{Or, left, right, safe_end}
 use Rattle.load_laws.specs.Finds.{eqb_no, find_mem, find_none}
 

@@ -15,9 +15,10 @@ use Rattle.definitions.specs.Scripts.{Edit, Insert, Join, fill, join, apply}
 use Rattle.definitions.specs.Rules.{new}
 use Rattle.definitions.specs.Load.{End, ends_at, join_met, load_nodes, load_net}
 use Rattle.join_laws.specs.Ports.{Frame, no_frame, frame, arity_frame, arity_same, net_frame, net_same, filled_same, Real}
-use Rattle.join_laws.specs.Join.{frame_join}
+use Rattle.join_laws.proofs.Join.{frame_join}
 use Rattle.script_laws.specs.Slots.{frame_fill_same, frame_fill_other}
-use Rattle.script_laws.specs.Safe.{With, was, first, second, Safe, safe_same, safe_append}
+use Rattle.script_laws.specs.Safe.{With, was, first, second, Safe}
+use Rattle.script_laws.proofs.Safe.{safe_same, safe_append}
 use Rattle.script_laws.specs.Loops.{Or, left, right, safe_end}
 use Rattle.rule_laws.specs.Places.{new_holes}
 use Rattle.load_laws.specs.Meets.{of_wire, of_wire_append, PortsApart, Joined, UsedBy, MeetsFit, meets_safe}

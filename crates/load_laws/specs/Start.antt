@@ -19,9 +19,11 @@ use Rattle.definitions.specs.Step.{Fresh}
 use Rattle.definitions.specs.Load.{End, ends_at, join_met, load_nodes, load_net}
 use Rattle.join_laws.specs.Ports.{Frame, no_frame, in_net, frame, arity_frame, arity_same, name_frame, holds_frame, filled_frame, Real, across_wire_same, across_wire_other, real_wire}
 use Rattle.join_laws.specs.Link.{Wired, frame_cut}
-use Rattle.join_laws.specs.Join.{join_cases, frame_join}
+use Rattle.join_laws.specs.Join.{join_cases}
+use Rattle.join_laws.proofs.Join.{frame_join}
 use Rattle.script_laws.specs.Slots.{across_fill, across_vacant}
-use Rattle.script_laws.specs.Safe.{With, was, first, second, Safe, Turns, edit_wired, edits_still, frame_edits, Born}
+use Rattle.script_laws.specs.Safe.{With, was, first, second, Safe, Turns, edit_wired, frame_edits, Born}
+use Rattle.script_laws.proofs.Safe.{edits_still}
 use Rattle.script_laws.specs.Tidy.{WellWired}
 use Rattle.rule_laws.specs.Places.{new_holes}
 use Rattle.rule_laws.specs.Order.{InOrder}

@@ -16,7 +16,8 @@ use Rattle.definitions.specs.State.{Net, Engine, graph_of, with_slots, with_dirt
 use Rattle.definitions.specs.Books.{push, push_dirty, placed, add_node, edit}
 use Rattle.good_laws.specs.Load.{wider}
 use Rattle.means.specs.Means.{no_net, Means}
-use Rattle.means.specs.Frame.{rest_set, OutNet, means_own}
+use Rattle.means.specs.Frame.{rest_set, OutNet}
+use Rattle.means.proofs.Frame.{means_own}
 
 -- a net with another free node
 unfoldable pub with_free : ℕ → Net → Net

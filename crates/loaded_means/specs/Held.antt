@@ -8,7 +8,7 @@ use Rattle.net_file.specs.Values.{FlatNet, File}
 use Rattle.net_file.specs.Checks.{flat, read}
 use Rattle.net_file_laws.specs.Bytes.{Bytes}
 use Rattle.net_file_laws.specs.Body
-use Rattle.net_file_laws.specs.RoundTrip.{flat_write_read}
+use Rattle.net_file_laws.proofs.RoundTrip.{flat_write_read}
 use Rattle.definitions.specs.Nets.{Home}
 use Rattle.definitions.specs.State.{Net, Pools, Engine, homes}
 use Rattle.definitions.specs.Load.{included, load}

@@ -15,7 +15,8 @@ use Rattle.net_file.specs.Checks.{flat, ordered, wired, read}
 use Rattle.net_file_laws.specs.Bytes.{Bytes}
 use Rattle.net_file_laws.specs.Exact.{Each}
 use Rattle.net_file_laws.specs.Flat.{NodeFits, FlatNetFits}
-use Rattle.net_file_laws.specs.RoundTrip.{Spells, flat_write_read}
+use Rattle.net_file_laws.specs.RoundTrip.{Spells}
+use Rattle.net_file_laws.proofs.RoundTrip.{flat_write_read}
 use Rattle.definitions.specs.Lists.{nth, each}
 use Rattle.definitions.specs.Nets.{Home, filled, name_of}
 use Rattle.definitions.specs.State.{Net, Pools, Engine, graph_of, homes, waits}

@@ -311,19 +311,3 @@ module _ (Named : ℕ → Name → Type 0) (ws w : List ℕ) (e : Engine) (m : M
 pub read_same : {A : Type 0} (f : Net → A) (ts : List Net) (k : ℕ) (t : Net) → f t ≡ f (get_or ts k no_net) → (j : ℕ) → f (get_or (set ts k t) j no_net) ≡ f (get_or ts j no_net)
 read_same {A} f ts k t e j =
     sym (get_or-map f (set ts k t) j no_net) ∙ ap (λ (l : List A). get_or l j (f no_net)) (map-set_same f ts k t no_net e) ∙ get_or-map f ts j no_net
-
-module _ (Named : ℕ → Name → Type 0) (ws w : List ℕ) (e : Engine) (m : Means Named ws e) where
-  -- net k's own words are written: its list and the waits on it are as they were
-  pub means_own : (f : Net → Net) (k : ℕ) → k < length e.nets → Rest (OutNet k) ws w → NetIs w k (f (net_at e k))
-      → (f (net_at e k)).list.items ≡ (net_at e k).list.items → (f (net_at e k)).awaiting ≡ (net_at e k).awaiting → Means Named w (over_net f k e)
-  unfolding over_net with_nets entries waits net_at
-  means_own f k h r n s t =
-      let b = m.header.few_nets in
-      means_net Named ws w e m f k h (record { long = r.long; same = λ i o. r.same i o.0 }) n
-      (used_keep Named ws w e m (λ i p. r.same i (omega arith)) (λ i p. r.same i (omega arith)))
-      (rw (map-set_same (λ (x : Net). length x.list.items) e.nets k (f (net_at e k)) no_net (ap (λ (l : List ℕ). length l) s))
-      (pool_lists _ _ (λ j i. sym (read_same (λ (x : Net). x.list.items) e.nets k (f (net_at e k)) s j))
-      (lists_keep Named ws w e m (λ i p. r.same i (omega arith)) (λ i p. r.same i (omega arith)) (λ i p. r.same i (omega arith)))))
-      (rw (map-set_same (λ (x : Net). length x.awaiting) e.nets k (f (net_at e k)) no_net (ap (λ (l : List Wait). length l) t))
-      (pool_lists _ _ (λ j i. sym (read_same (λ (x : Net). map (λ v. (v.node, v.net + 1)) x.awaiting) e.nets k (f (net_at e k)) (ap (λ (l : List Wait). map (λ v. (v.node, v.net + 1)) l) t) j))
-      (awaits_keep Named ws w e m (λ i p. r.same i (omega arith)) (λ i p. r.same i (omega arith)) (λ i p. r.same i (omega arith)))))

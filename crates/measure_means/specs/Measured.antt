@@ -21,7 +21,8 @@ use Rattle.net_file_laws.specs.Bytes.{Bytes, length_be}
 use Rattle.net_file_laws.specs.Exact.{Exact, exact_times}
 use Rattle.net_file_laws.specs.Parts.{exact_path}
 use Rattle.net_file_laws.specs.Body.{TablesFit, after_version, body_written}
-use Rattle.net_file_laws.specs.RoundTrip.{FileFits, Spells, flat_write_read}
+use Rattle.net_file_laws.specs.RoundTrip.{FileFits, Spells}
+use Rattle.net_file_laws.proofs.RoundTrip.{flat_write_read}
 use Rattle.fields.specs.Fields.{be16}
 use Rattle.stored.specs.Stored.{name_count_at, net_count_at}
 use Rattle.ends.specs.Ends.{within}

@@ -27,6 +27,7 @@ use Rattle.definitions.specs.Books.{link, fresh, edit}
 use Rattle.script_laws.specs.Safe.{With, Safe}
 use Rattle.script_laws.specs.Loops.{hung}
 use Rattle.rule_laws.specs.Erase as Law
+use Rattle.rule_laws.proofs.Erase as LawProofs
 use Rattle.means.specs.Means.{number}
 use Rattle.means.specs.Frame.{rest_trans}
 use Rattle.good_means.specs.Room.{net_inside_lem}

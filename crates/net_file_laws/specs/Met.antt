@@ -11,13 +11,13 @@ use Rattle.net_file_laws.specs.Parts.{NameFits, PathFits}
 use Rattle.net_file_laws.specs.Flat.{FlatNetFits}
 use Rattle.net_file_laws.specs.Trees.{TreeFits, TreeNetFits}
 use Rattle.net_file_laws.specs.Body.{TablesFit}
-use Rattle.net_file_laws.specs.RoundTrip.{FileFits, flat_read_write, tree_read_write}
+use Rattle.net_file_laws.specs.RoundTrip.{FileFits}
 
 abbrev plain : Name
 plain = record { path = 0; payload = 7; children = [] }
 
 -- both free ports on one wire, and a node with its own two on another
-abbrev flat_file : File FlatNet
+abbrev pub flat_file : File FlatNet
 flat_file = record {
   limit = some 5;
   paths = (97 ∷ []) ∷ [];
@@ -27,7 +27,7 @@ flat_file = record {
 }
 
 -- a free port on a node, linked to a node
-abbrev tree_file : File TreeNet
+abbrev pub tree_file : File TreeNet
 tree_file = record {
   limit = some 5;
   paths = (97 ∷ []) ∷ [];
@@ -68,13 +68,9 @@ flat_tables = record {
   few_nodes = omega arith;
 }
 
-flat_fits : FileFits flat FlatNetFits flat_file
+pub flat_fits : FileFits flat FlatNetFits flat_file
 unfolding Write.write_body Write.counted Write.be Write.write_path Write.write_name Write.write_rule Write.write_flat_net Write.write_head Write.write_node Write.write_pair Write.limit_number
 flat_fits = record { limit = omega arith; tables = flat_tables; size = omega arith }
-
-pub flat_met : read flat (write flat flat_file) ≡ ok flat_file
-unfolding Checks.ordered Checks.wired Checks.free_named Checks.same_name Checks.pairs_ordered Checks.pair_wires Checks.flat_wired Checks.places Checks.occurs Checks.wire_wired Checks.pair_wired Checks.names_free Checks.rule_paths
-flat_met = flat_read_write flat_file flat_fits tt tt tt
 
 tree_tables : TablesFit tree TreeNetFits tree_file
 unfolding Checks.trees_of Checks.nodes_of TreeFits
@@ -101,10 +97,6 @@ tree_tables = record {
   few_nodes = omega arith;
 }
 
-tree_fits : FileFits tree TreeNetFits tree_file
+pub tree_fits : FileFits tree TreeNetFits tree_file
 unfolding Write.write_body Write.counted Write.be Write.write_path Write.write_name Write.write_rule Write.write_tree_net Write.write_head Write.write_tree Write.write_link Write.limit_number
 tree_fits = record { limit = omega arith; tables = tree_tables; size = omega arith }
-
-pub tree_met : read tree (write tree tree_file) ≡ ok tree_file
-unfolding Checks.ordered Checks.wired Checks.free_named Checks.same_name Checks.tree_wired Checks.trees_of Checks.wires_of Checks.occurs Checks.names_free Checks.rule_paths
-tree_met = tree_read_write tree_file tree_fits tt tt tt

@@ -141,27 +141,3 @@ module _ {Net : Type 0} (v : Version Net) (NetFits : ℕ → ℕ → Net → Typ
     -- and no two of them say the same
     pub one_spelling : (bs cs : List ℕ) → Bytes bs → Bytes cs → (f : File Net) → read v bs ≡ ok f → read v cs ≡ ok f → bs ≡ cs
     one_spelling bs cs hb hc f b c = sym (write_read bs hb f b).bytes ∙ (write_read cs hc f c).bytes
-
--- ---- flat
-
-pub flat_law : NetLaw flat FlatNetFits
-flat_law = record { small = omega arith; exact = exact_flat_net }
-
-pub flat_read_write : (f : File FlatNet) → FileFits flat FlatNetFits f → T (ordered flat f) → T (wired flat f) → T (not (free_named flat f))
-    → read flat (write flat f) ≡ ok f
-flat_read_write = read_write flat FlatNetFits flat_law
-
-pub flat_write_read : (bs : List ℕ) → Bytes bs → (f : File FlatNet) → read flat bs ≡ ok f → Spells flat FlatNetFits bs f
-flat_write_read = write_read flat FlatNetFits flat_law
-
--- ---- tree
-
-pub tree_law : NetLaw tree TreeNetFits
-tree_law = record { small = omega arith; exact = exact_tree_net }
-
-pub tree_read_write : (f : File TreeNet) → FileFits tree TreeNetFits f → T (ordered tree f) → T (wired tree f) → T (not (free_named tree f))
-    → read tree (write tree f) ≡ ok f
-tree_read_write = read_write tree TreeNetFits tree_law
-
-pub tree_write_read : (bs : List ℕ) → Bytes bs → (f : File TreeNet) → read tree bs ≡ ok f → Spells tree TreeNetFits bs f
-tree_write_read = write_read tree TreeNetFits tree_law

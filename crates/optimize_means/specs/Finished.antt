@@ -14,7 +14,7 @@ use Rattle.net_file.specs.Values.{FlatNet, File}
 use Rattle.net_file.specs.Checks.{flat, read}
 use Rattle.net_file_laws.specs.Bytes.{Bytes}
 use Rattle.net_file_laws.specs.Flat.{FlatNetFits}
-use Rattle.net_file_laws.specs.RoundTrip.{flat_write_read}
+use Rattle.net_file_laws.proofs.RoundTrip.{flat_write_read}
 use Rattle.definitions.specs.Lists.{nth, up_to}
 use Rattle.definitions.specs.Nets.{Home, holds, name_of}
 use Rattle.definitions.specs.State.{Net, Pools, Engine, graph_of, homes, net_at}

@@ -16,7 +16,8 @@ use Rattle.net_file_laws.specs.Parts.{exact_path, exact_name, NameFits}
 use Rattle.net_file_laws.specs.Rules.{exact_rule}
 use Rattle.net_file_laws.specs.Flat.{FlatNetFits, exact_flat_net}
 use Rattle.net_file_laws.specs.Body.{TablesFit, after_version, body_written}
-use Rattle.net_file_laws.specs.RoundTrip.{FileFits, Spells, flat_write_read}
+use Rattle.net_file_laws.specs.RoundTrip.{FileFits, Spells}
+use Rattle.net_file_laws.proofs.RoundTrip.{flat_write_read}
 use Rattle.fields.specs.Fields.{byte, be16}
 use Rattle.stored.specs.Stored.{table_at, table_end, path_at, path_end, name_at, name_end, rule_at, rule_end, flat_net_at, flat_net_end, name_count_at, rule_count_at, net_count_at}
 use Rattle.stored.specs.Laws.{Stands, stands_2, stands_below, stands_many, stands_times_from, table_length}

@@ -13,7 +13,8 @@ use Rattle.net_file_laws.specs.Bytes.{Bytes, length_be}
 use Rattle.net_file_laws.specs.Exact.{Each}
 use Rattle.net_file_laws.specs.Flat.{FlatNetFits}
 use Rattle.net_file_laws.specs.Body.{TablesFit}
-use Rattle.net_file_laws.specs.RoundTrip.{Spells, flat_write_read, flat_read_write}
+use Rattle.net_file_laws.specs.RoundTrip.{Spells}
+use Rattle.net_file_laws.proofs.RoundTrip.{flat_write_read, flat_read_write}
 use Rattle.list_laws.specs.Tests.{both, both_are}
 use Rattle.conversions.specs.Prune.{join, reach, keep_nets, prune}
 use Rattle.prune_laws.specs.Members.{tested, false_true}

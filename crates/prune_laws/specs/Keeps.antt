@@ -5,7 +5,7 @@ use Rattle.net_file.specs.Lists.{ok, any}
 use Rattle.net_file.specs.Values.{FlatNet, File}
 use Rattle.net_file.specs.Checks.{flat, read}
 use Rattle.net_file_laws.specs.Bytes.{Bytes}
-use Rattle.net_file_laws.specs.RoundTrip.{flat_write_read}
+use Rattle.net_file_laws.proofs.RoundTrip.{flat_write_read}
 use Rattle.conversions.specs.Prune.{Reached, join, reach, keep_nets, prune}
 use Rattle.prune_laws.specs.Members.{In, tested}
 use Rattle.prune_laws.specs.Exact.{reach_exact}

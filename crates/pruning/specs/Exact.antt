@@ -20,7 +20,7 @@ use Rattle.net_file_laws.specs.Exact.{exact_many}
 use Rattle.net_file_laws.specs.Parts.{exact_path}
 use Rattle.net_file_laws.specs.Flat.{exact_flat_net}
 use Rattle.net_file_laws.specs.Header.{read_passed}
-use Rattle.net_file_laws.specs.RoundTrip.{flat_write_read}
+use Rattle.net_file_laws.proofs.RoundTrip.{flat_write_read}
 use Rattle.list_laws.specs.Tests.{both}
 use Rattle.definitions.specs.Calls.{written}
 use Rattle.conversions.specs.Calls.{fitted, pruned}

@@ -15,7 +15,8 @@ use Rattle.net_file_laws.specs.Bytes.{Bytes}
 use Rattle.net_file_laws.specs.Exact.{Each}
 use Rattle.net_file_laws.specs.Flat.{FlatNetFits}
 use Rattle.net_file_laws.specs.Body.{TablesFit}
-use Rattle.net_file_laws.specs.RoundTrip.{Spells, flat_write_read}
+use Rattle.net_file_laws.specs.RoundTrip.{Spells}
+use Rattle.net_file_laws.proofs.RoundTrip.{flat_write_read}
 use Rattle.list_laws.specs.Tests.{both}
 use Rattle.words.specs.Choose.{eq_yes}
 use Rattle.fields.specs.Fields.{be16}

@@ -97,8 +97,3 @@ module _ (bs : List ℕ) (bytes : Bytes bs) (f : File FlatNet) (accepted : read 
   pub reached_nodes : {e : Engine} → Reached p f e → AllNodes (Writable (length (with_free_path f.paths)) (length f.names)) (graph_of e)
   unfolding core_of
   reached_nodes r = Kept.reached_nodes bs bytes f accepted p fits begins r
-
-  -- slice calls one after another, whose numbers add up to at most 16,777,216 or to none, answer and leave what one call of their sum does
-  pub slice_calls_compose : (w : Workspace) (h : Held) (ns : List ℕ) → resume w p ≡ ok h → Reached p f h.engine → all limit_fits ns ≡ true → SumFits (total (map limit_of ns))
-      → slice_calls w p ns ≡ ((slice w p (limit_number (total (map limit_of ns)))).0, after w (slice w p (limit_number (total (map limit_of ns)))).1)
-  slice_calls_compose w h ns q r l s = Calls.slice_calls_compose w p h ns q l s (fuel_lasts (total (map limit_of ns)) r)

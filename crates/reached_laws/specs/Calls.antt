@@ -16,7 +16,8 @@ use Rattle.definitions.specs.Visit.{Visited, acted, passed, less_one}
 use Rattle.definitions.specs.Run.{with_items, next, run, fuel, run_slice}
 use Rattle.definitions.specs.Calls.{Held, Workspace, unchanged, zeros, image, Outcome, pools_fit, same_pools, resume, slice, after}
 use Rattle.engine_laws.specs.Frame.{frame, pools_kept}
-use Rattle.engine_laws.specs.Turns.{Counts, turn_counts}
+use Rattle.engine_laws.specs.Turns.{Counts}
+use Rattle.engine_laws.proofs.Turns.{turn_counts}
 use Rattle.good_laws.specs.Edits.{Answers}
 use Rattle.slice_laws.specs.Sums.{total, slices}
 use Rattle.slice_laws.specs.Loop
@@ -122,7 +123,7 @@ slice_is w p h n r l =
 -- ---- calls and slices
 
 -- what the calls come to, by what the engine gives
-abbrev ends : Workspace → File FlatNet → Result (Engine × ℕ) → Result ℕ × Workspace
+abbrev pub ends : Workspace → File FlatNet → Result (Engine × ℕ) → Result ℕ × Workspace
 ends w f (refuse r) = (refuse r, holding w none)
 ends w f (ok r) = (ok r.1, holding w (some (record { file = f; engine = r.0 })))
 
@@ -136,7 +137,7 @@ resumes_after w p h n r s q = record { fit = s.fit; held = refl; same = subst (�
     go (ok e') k q = let z : e' ≡ r.0 = ap {A = Result (Engine × ℕ)} (λ y. elim y as (λ _. Engine) [ ok t ↦ t.0 | refuse t ↦ e' ]) q in subst (λ (d : Engine). d.pools ≡ h.engine.pools) z k
     go (refuse t) k q = absurd (let z : ◌≡◌ {A = ℕ} 0 1 = cc in omega arith)
 
-calls_are : (ns : List ℕ) (w : Workspace) (p : Pools) (h : Held) → Resumes w p h → all limit_fits ns ≡ true → slice_calls w p ns ≡ ends w h.file (slices (map limit_of ns) h.engine)
+pub calls_are : (ns : List ℕ) (w : Workspace) (p : Pools) (h : Held) → Resumes w p h → all limit_fits ns ≡ true → slice_calls w p ns ≡ ends w h.file (slices (map limit_of ns) h.engine)
 unfolding slice_calls slices after
 calls_are [] w p h r l = λ i. (ok 0, record { fits = w.fits; held = r.held i })
 calls_are (n ∷ ns) w p h r l =
@@ -167,7 +168,7 @@ SumFits none = Unit {0}
 SumFits (some n) = n ≤ max_steps
 
 -- the number that stands for it
-number_back : (o : Option ℕ) → SumFits o → (limit_of (limit_number o) ≡ o) × (limit_fits (limit_number o) ≡ true)
+pub number_back : (o : Option ℕ) → SumFits o → (limit_of (limit_number o) ≡ o) × (limit_fits (limit_number o) ≡ true)
 unfolding limit_of limit_number limit_fits
 number_back none h = (refl, refl)
 number_back (some n) h =
@@ -175,19 +176,7 @@ number_back (some n) h =
     let a = ne_eqb n no_limit d in
     (ap (λ (t : Bool). elim t as (λ _. Option ℕ) [ true ↦ none | false ↦ some n ]) a, ap (λ (t : Bool). t || leb n max_steps) a ∙ le-leb n max_steps h)
 
-ends_outcome : (w : Workspace) (f : File FlatNet) (x : Result (Engine × ℕ)) → ends w f x ≡ ((outcome f x).0, after w (outcome f x).1)
+pub ends_outcome : (w : Workspace) (f : File FlatNet) (x : Result (Engine × ℕ)) → ends w f x ≡ ((outcome f x).0, after w (outcome f x).1)
 unfolding after
 ends_outcome w f (refuse r) = refl
 ends_outcome w f (ok r) = refl
-
--- slice calls whose numbers add up to at most 16,777,216, or to none, on a workspace that holds a run whose fuel lasts
-pub slice_calls_compose : (w : Workspace) (p : Pools) (h : Held) (ns : List ℕ) → resume w p ≡ ok h → all limit_fits ns ≡ true
-    → SumFits (total (map limit_of ns)) → Loop.Lasts (run fuel (total (map limit_of ns)) h.engine)
-    → slice_calls w p ns ≡ ((slice w p (limit_number (total (map limit_of ns)))).0, after w (slice w p (limit_number (total (map limit_of ns)))).1)
-slice_calls_compose w p h ns q l s k =
-    let r = resumes w p h q in
-    let t = total (map limit_of ns) in
-    let b = number_back t s in
-    calls_are ns w p h r l ∙ ap (ends w h.file) (slices_compose (map limit_of ns) h.engine k ∙ ap (λ (o : Option ℕ). run_slice o h.engine) (sym b.0))
-    ∙ ends_outcome w h.file (run_slice (limit_of (limit_number t)) h.engine)
-    ∙ ap (λ (o : Outcome ℕ). let x : Result ℕ × Workspace = (o.0, after w o.1) in x) (sym (slice_is w p h (limit_number t) r b.1))

@@ -19,6 +19,7 @@ use Rattle.step_laws.specs.Acting.{After}
 use Rattle.step_laws.specs.Ready.{Ready, OneStep}
 use Rattle.step_laws.specs.Visiting.{Held}
 use Rattle.step_laws.specs.Counting
+use Rattle.step_laws.proofs.Counting as CountingProofs
 use Rattle.step_laws.specs.Counting.{Marked, Turns, turn_steps, Counted}
 use Rattle.good_laws.specs.Owners.{owners, net_of, is_of}
 use Rattle.good_laws.specs.Good.{Good, rest}
@@ -27,6 +28,7 @@ use Rattle.good_laws.specs.Scripts.{Visits}
 use Rattle.good_laws.specs.Turn.{is_some_lem}
 use Rattle.fuel_laws.specs.Lasts.{Running, next_last, taken_running}
 use Rattle.fuel_laws.specs.Reached
+use Rattle.fuel_laws.proofs.Reached as ReachedProofs
 use Rattle.fuel_laws.specs.Reached.{Reached, loads, turns, leaves}
 use Rattle.reached_laws.specs.Tracks.{filled_owner, good_tracked}
 use Rattle.reached_laws.specs.Wires.{Wires, wires_sound}
@@ -77,7 +79,7 @@ module _ (p : Pools) (fits : pools_fit p ≡ true) (f : File FlatNet) (path : �
   -- the nets after a slice come from those before by as many steps of registered rules as were deducted
   pub steps_counted : {e : Engine} (n : Option ℕ) (e' : Engine) (k : ℕ) → Reached p f e → run_slice n e ≡ ok (e', k) → Counted path (core_of e) (core_of e') k
   steps_counted {e} n e' k r h =
-      (Counting.steps_counted path (Running (Wires path) (wires_sound path)) (λ d b. good_marked rest d b.0.0)
+      (CountingProofs.steps_counted path (Running (Wires path) (wires_sound path)) (λ d b. good_marked rest d b.0.0)
       (λ m d q b s. visits_after (Running (Wires path) (wires_sound path)) (Running (Wires path) (wires_sound path)) (turn q.1 (with_items q.0 d))
       (taken_running (Wires path) (wires_sound path) q d b (next_last m d q s)))
       n e e' k (reached_ready r) (Reached.reached_running (Wires path) (wires_sound path) p fits f begins r) h).0

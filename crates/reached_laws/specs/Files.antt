@@ -14,7 +14,8 @@ use Rattle.definitions.specs.Load.{load_net, add_flat_net, empty, included, free
 use Rattle.definitions.specs.Visit.{Visited, acted, passed, less_one}
 use Rattle.definitions.specs.Run.{with_items, spent, next}
 use Rattle.engine_laws.specs.Frame.{Outline, frame, FramesOk, edits_frame, pools_kept, rules_kept, homes_kept, steps_kept}
-use Rattle.engine_laws.specs.Turns.{Counts, turn_counts}
+use Rattle.engine_laws.specs.Turns.{Counts}
+use Rattle.engine_laws.proofs.Turns.{turn_counts}
 use Rattle.good_laws.specs.Edits.{Answers}
 use Rattle.good_laws.specs.Loaded.{ok_injective}
 use Rattle.fuel_laws.specs.Reached.{Reached, loads, turns, leaves}

@@ -9,7 +9,7 @@ use Rattle.definitions.specs.Nets.{Home, arity}
 use Rattle.definitions.specs.State.{Pools, Engine}
 use Rattle.definitions.specs.Load.{with_free_path, free_name, included}
 use Rattle.definitions.specs.Calls.{pools_fit}
-use Rattle.graph_laws.specs.Rest.{step_free_kept}
+use Rattle.graph_laws.proofs.Rest.{step_free_kept}
 use Rattle.graph_laws.specs.Nodes.{AllNodes, step_nodes}
 use Rattle.step_laws.specs.Core.{core_of}
 use Rattle.load_laws.specs.Begin.{Writable, FreePorts, same_map, load_begun}

@@ -15,6 +15,7 @@ use Rattle.good_laws.specs.Sound.{Of}
 use Rattle.slice_laws.specs.Sums.{total, slices}
 use Rattle.slice_laws.specs.Loop.{Lasts}
 use Rattle.fuel_laws.specs.Reached
+use Rattle.fuel_laws.proofs.Reached as ReachedProofs
 use Rattle.fuel_laws.specs.Reached.{Reached, Bounded}
 use Rattle.reached_laws.specs.Wires.{Wires, wires_sound}
 
@@ -41,8 +42,8 @@ module _ (p : Pools) (fits : pools_fit p ≡ true) (f : File FlatNet) (path : �
 
   -- the loop ends before its fuel does
   pub fuel_lasts : {e : Engine} (n : Option ℕ) → Reached p f e → Lasts (run fuel n e)
-  fuel_lasts n r = Reached.reached_lasts (Wires path) (wires_sound path) p fits f begins n r
+  fuel_lasts n r = ReachedProofs.reached_lasts (Wires path) (wires_sound path) p fits f begins n r
 
   -- `slices-compose`
   pub slices_compose : {e : Engine} (ns : List (Option ℕ)) → Reached p f e → slices ns e ≡ run_slice (total ns) e
-  slices_compose ns r = Reached.reached_slices (Wires path) (wires_sound path) p fits f begins ns r
+  slices_compose ns r = ReachedProofs.reached_slices (Wires path) (wires_sound path) p fits f begins ns r

@@ -24,7 +24,8 @@ use Rattle.engine_laws.specs.Frame.{Body, body, tighten_net_still, still_graph, 
 use Rattle.rule_laws.specs.Places.{one_of_two}
 use Rattle.rule_laws.specs.Order.{InOrder, interact_order, eta_order, graft_order}
 use Rattle.graph_laws.specs.Dead.{interact_dead}
-use Rattle.graph_laws.specs.Rest.{Rest, Unnamed, acts_clean, step_wired}
+use Rattle.graph_laws.specs.Rest.{Rest, Unnamed, acts_clean}
+use Rattle.graph_laws.proofs.Rest.{step_wired}
 use Rattle.step_laws.specs.Core.{core_of, list_of}
 use Rattle.step_laws.specs.Track.{list_at}
 use Rattle.step_laws.specs.Numbers.{tracked_fresh, tight_nodes}

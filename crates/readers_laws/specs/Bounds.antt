@@ -11,7 +11,8 @@ use Rattle.net_file_laws.specs.Parts.{PathFits, NameFits}
 use Rattle.net_file_laws.specs.Rules.{ListFits, RuleFits}
 use Rattle.net_file_laws.specs.Flat.{PairFits, NodeFits, FlatNetFits}
 use Rattle.net_file_laws.specs.Body.{LimitFits, TablesFit}
-use Rattle.net_file_laws.specs.RoundTrip.{Spells, flat_write_read}
+use Rattle.net_file_laws.specs.RoundTrip.{Spells}
+use Rattle.net_file_laws.proofs.RoundTrip.{flat_write_read}
 use Rattle.readers_laws.specs.Few.{one_more}
 
 -- ---- of each, the k-th

@@ -14,7 +14,8 @@ use Rattle.net_file.specs.Write.{be, counted, write_tree_net, write_body}
 use Rattle.net_file.specs.Checks.{tree, trees_of, read, write}
 use Rattle.net_file_laws.specs.Bytes.{Bytes, length_be}
 use Rattle.net_file_laws.specs.Trees.{TreeNetFits}
-use Rattle.net_file_laws.specs.RoundTrip.{Spells, tree_write_read}
+use Rattle.net_file_laws.specs.RoundTrip.{Spells}
+use Rattle.net_file_laws.proofs.RoundTrip.{tree_write_read}
 use Rattle.conversions.specs.Convert.{◌>>=◌}
 use Rattle.conversions.specs.Resolve.{resolve_all, deeper, resolve_tree}
 use Rattle.conversions.specs.Calls.{map_nets, convert, fitted, resolve_tree_call}

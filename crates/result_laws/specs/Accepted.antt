@@ -64,7 +64,7 @@ module _ (bs : List ℕ) (bytes : Bytes bs) (f : File FlatNet) (accepted : read 
           (subst (λ (k : Held). (elim (deliver room (result k.file k.engine)) as (λ _. Outcome (List ℕ)) [ refuse n ↦ (refuse n, unchanged) | ok l ↦ (ok l, zeros (length (write flat k.file))) ]).0 ≡ ok out) (ok_is s) t)
 
 -- a workspace that holds a run resumes it, or refuses
-resumed : (w : Workspace) (p : Pools) (h : Held) → w.held ≡ some h → (r : Result Held) → resume w p ≡ r → (r ≡ ok h) ⊎ ((n : ℕ) × (r ≡ refuse n))
+pub resumed : (w : Workspace) (p : Pools) (h : Held) → w.held ≡ some h → (r : Result Held) → resume w p ≡ r → (r ≡ ok h) ⊎ ((n : ℕ) × (r ≡ refuse n))
 unfolding resume
 resumed w p h s r e = subst (λ (x : Result Held). (x ≡ ok h) ⊎ ((n : ℕ) × (x ≡ refuse n))) e
     (subst (λ (o : Option Held). Resumes (need (pools_fit p && w.fits p 0) 1 (elim o as (λ _. Result Held) [
@@ -79,26 +79,6 @@ resumed w p h s r e = subst (λ (x : Result Held). (x ≡ ok h) ⊎ ((n : ℕ) �
     go true true = inl refl
     go true false = inr (16, refl)
     go false b = inr (1, refl)
-
--- `finish-read`, on whatever begin and slices leave
-pub left_read : {p : Pools} {h : Held} → LeftBy p h → (w : Workspace) → w.held ≡ some h → (room : ℕ) (out : List ℕ) → (finish w p room).0 ≡ ok out → read flat out ≡ ok (result h.file h.engine)
-unfolding finish
-left_read {p} {h} l w s room out q = go (resumed w p h s (resume w p) refl)
-  where
-    r : Run p h
-    r = left_run l
-
-    go : (resume w p ≡ ok h) ⊎ ((n : ℕ) × (resume w p ≡ refuse n)) → read flat out ≡ ok (result h.file h.engine)
-    go (inl x) = finish_read r.bytes r.are h.file r.read p r.fits r.reached w room out x q
-    go (inr x) = absurd (never (resume w p) x.1 q)
-      where
-        never : (o : Result Held) → o ≡ refuse x.0
-            → (elim o as (λ _. Outcome (List ℕ)) [
-              | refuse n ↦ (refuse n, unchanged)
-              | ok g ↦ elim (deliver room (result g.file g.engine)) as (λ _. Outcome (List ℕ)) [ refuse n ↦ (refuse n, unchanged) | ok y ↦ (ok y, zeros (length (write flat g.file))) ]
-            ]).0 ≡ ok out → ⊥
-        never (refuse n) a b = let z : ◌≡◌ {A = ℕ} 0 1 = cc in omega arith
-        never (ok g) a b = let z : ◌≡◌ {A = ℕ} 0 1 = cc in omega arith
 
 -- the one-call form: what it answers is accepted, and is the result of an engine that the file's run reaches
 pub optimize_read : (w : Workspace) (p : Pools) (room : ℕ) (bs out : List ℕ) → Bytes bs → (optimize w p room bs).0 ≡ ok out

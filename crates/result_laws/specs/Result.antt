@@ -17,7 +17,8 @@ use Rattle.net_file_laws.specs.Bytes.{Bytes}
 use Rattle.net_file_laws.specs.Rules.{RuleFits}
 use Rattle.net_file_laws.specs.Flat.{FlatNetFits}
 use Rattle.net_file_laws.specs.Body.{LimitFits, TablesFit}
-use Rattle.net_file_laws.specs.RoundTrip.{FileFits, Spells, flat_read_write, flat_write_read}
+use Rattle.net_file_laws.specs.RoundTrip.{FileFits, Spells}
+use Rattle.net_file_laws.proofs.RoundTrip.{flat_read_write, flat_write_read}
 use Rattle.definitions.specs.Lists.{nth}
 use Rattle.definitions.specs.Nets.{arity}
 use Rattle.definitions.specs.State.{Pools, Engine, graph_of, net_at}

@@ -7,7 +7,7 @@ use Rattle.net_file.specs.Write.{be, counted, write_flat_net, write_body}
 use Rattle.net_file.specs.Checks.{flat, read, write}
 use Rattle.net_file_laws.specs.Bytes.{Bytes}
 use Rattle.net_file_laws.specs.Flat.{FlatNetFits}
-use Rattle.net_file_laws.specs.RoundTrip.{flat_write_read}
+use Rattle.net_file_laws.proofs.RoundTrip.{flat_write_read}
 use Rattle.size_laws.specs.Parts.{be_length, counted_size, flat_net_size}
 use Rattle.size_laws.specs.Files.{body_size}
 

@@ -12,7 +12,7 @@ use Rattle.net_file.specs.Lists.{Result, ok}
 use Rattle.net_file.specs.Values.{FlatNet, File}
 use Rattle.net_file.specs.Checks.{flat, read, write}
 use Rattle.net_file_laws.specs.Bytes.{Bytes}
-use Rattle.net_file_laws.specs.RoundTrip.{flat_write_read}
+use Rattle.net_file_laws.proofs.RoundTrip.{flat_write_read}
 use Rattle.net_check.specs.Verdict.{verdict}
 use Rattle.layout.specs.Layout.{file_length}
 use Rattle.definitions.specs.Lists.{nth}

@@ -67,15 +67,3 @@ module _ (g : Graph) (w : WellWired g) (a b : ℕ) (m : Meet g a b) (same : arit
           go : (r ≡ port a x.i) ⊎ (r ≡ port b x.i) → Memᴰ r.node (a ∷ b ∷ []) ⊎ (filled g r.node ≡ false)
           go (inl e) = inl (Memᴰ.head (ap (λ (p : Port). p.node) e))
           go (inr e) = inl (Memᴰ.tail (Memᴰ.head (ap (λ (p : Port). p.node) e)))
-
--- an annihilation leaves the nets well wired
-pub annihilate_clean : (fresh : ℕ → ℕ) (g : Graph) → WellWired g → (a b : ℕ) → across g (port a 0) ≡ some (port b 0)
-    → (s : Script) → annihilate_script fresh g a b ≡ some s → Clean g s
-unfolding annihilate_script ports
-annihilate_clean fresh g w a b e s h =
-    let x = given_some (same_name (name_of g a) (name_of g b) && eqb (arity g a) (arity g b)) (record { edits = zip_with Join (ports g a) (ports g b); dead = a ∷ b ∷ [] }) s h in
-    let same : arity g a ≡ arity g b = eqb-true (arity g a) (arity g b) (both (same_name (name_of g a) (name_of g b)) (eqb (arity g a) (arity g b)) x.0).1 in
-    let m = meet g w.wired a b e in
-    let rows : zip_with Join (map (port a) (up_to (arity g a))) (map (port b) (up_to (arity g b))) ≡ map (λ i. Join (port a i) (port b i)) (up_to (arity g a)) =
-    ap (λ (k : ℕ). zip_with Join (map (port a) (up_to (arity g a))) (map (port b) (up_to k))) (sym same) ∙ zip_rows Join (port a) (port b) (up_to (arity g a)) in
-    subst (Clean g) (ap (λ (ds : List Rattle.definitions.specs.Scripts.Edit). record { edits = ds; dead = a ∷ b ∷ [] }) (sym rows) ∙ x.1) (tidy_clean g (joins g w a b m same) (Ends g w a b m same) w (joins_tidy g w a b m same) (distinct_two a b m.differ))

@@ -9,9 +9,10 @@ use Rattle.definitions.specs.Lists.{or_else, foldl, from, up_to}
 use Rattle.definitions.specs.Nets.{Port, Node, Graph, port, at, filled, arity}
 use Rattle.definitions.specs.Scripts.{Edit, Insert, Join, fill, join, apply}
 use Rattle.join_laws.specs.Ports.{Frame, no_frame, frame, arity_frame, arity_same, net_frame, net_same, filled_same, Real}
-use Rattle.join_laws.specs.Join.{frame_join}
+use Rattle.join_laws.proofs.Join.{frame_join}
 use Rattle.script_laws.specs.Slots.{Holes, frame_fill_same, frame_fill_other}
-use Rattle.script_laws.specs.Safe.{With, was, first, second, Safe, safe_append}
+use Rattle.script_laws.specs.Safe.{With, was, first, second, Safe}
+use Rattle.script_laws.proofs.Safe.{safe_append}
 use Rattle.script_laws.specs.Loops.{Or, left, right, Row, Apart, joins_safe, safe_end}
 
 -- a run of joins changes no frame
@@ -59,10 +60,10 @@ module _ (F : Port → Type 0) (b k m c : ℕ) (rows cols : ℕ → ℕ) (y : No
     pub unused_col : (i j : ℕ) → l ≤ j → j < c → ¬ U (port (cols j) i)
     pub unused_row : (i j : ℕ) → i < m → l ≤ j → j < c → ¬ U (port (rows i) (1 + j))
 
-  abbrev After : (Port → Type 0) → ℕ → Port → Type 0
+  abbrev pub After : (Port → Type 0) → ℕ → Port → Type 0
   After U l = Or (With U (port b (1 + l)) (port (cols l) 0)) (Row (λ i. port (cols l) (1 + i)) (λ i. port (rows i) (1 + l)) 0 m)
 
-  columns_more : (U : Port → Type 0) (l : ℕ) → l < c → (r : Port) → (Or (After U l) (Columns b m c rows cols (suc l)) r → Or U (Columns b m c rows cols l) r) × (Or U (Columns b m c rows cols l) r → Or (After U l) (Columns b m c rows cols (suc l)) r)
+  pub columns_more : (U : Port → Type 0) (l : ℕ) → l < c → (r : Port) → (Or (After U l) (Columns b m c rows cols (suc l)) r → Or U (Columns b m c rows cols l) r) × (Or U (Columns b m c rows cols l) r → Or (After U l) (Columns b m c rows cols (suc l)) r)
   columns_more U l h r = (to, from')
     where
       here : Column b m c rows cols l r → Or U (Columns b m c rows cols l) r
@@ -140,7 +141,7 @@ module _ (F : Port → Type 0) (b k m c : ℕ) (rows cols : ℕ → ℕ) (y : No
       abbrev joins : List Edit
       joins = map (λ i. Join (port (cols l) (1 + i)) (port (rows i) (1 + l))) (up_to m)
 
-      abbrev g₃ : Graph
+      abbrev pub g₃ : Graph
       g₃ = foldl apply g₂ joins
 
       abbrev U₂ : Port → Type 0
@@ -195,7 +196,7 @@ module _ (F : Port → Type 0) (b k m c : ℕ) (rows cols : ℕ → ℕ) (y : No
           row_free i s (first e) = numbers.b_rows i (sym (ap (λ (p : Port). p.node) e))
           row_free i s (second e) = numbers.crossed i l s (ap (λ (p : Port). p.node) e)
 
-      next_fit : ColumnsFit g₃ (After U l) (suc l)
+      pub next_fit : ColumnsFit g₃ (After U l) (suc l)
       next_fit = record {
         vacant = λ j s t. filled_same g g₃ (cols j) (other₃ (cols j) (λ e. let z = numbers.cols_apart j l e in omega arith)) ∙ f.vacant j (omega arith) t;
         real_b = λ j s t. rw (arity_same g g₃ b (other₃ b (numbers.b_cols l))) (f.real_b j (omega arith) t);
@@ -207,7 +208,7 @@ module _ (F : Port → Type 0) (b k m c : ℕ) (rows cols : ℕ → ℕ) (y : No
         unused_row = λ i j q s t. row_later U l j s i q (f.unused_row i j q (omega arith) t);
       }
 
-      column_fit : (ds : List Edit) (Z : Port → Type 0) → Safe F g₃ (After U l) ds Z → Safe F g U (column b m c rows cols y l ++ ds) Z
+      pub column_fit : (ds : List Edit) (Z : Port → Type 0) → Safe F g₃ (After U l) ds Z → Safe F g U (column b m c rows cols y l ++ ds) Z
       unfolding apply
       column_fit ds Z s = (
         record { vacant = f.vacant l (omega arith) h; holes = holes; some_port = omega arith; later = λ i q. later i l q h },
@@ -223,11 +224,3 @@ module _ (F : Port → Type 0) (b k m c : ℕ) (rows cols : ℕ → ℕ) (y : No
           safe_append F joins ds g₂ U₂ (After U l) Z joins_fit s,
         ),
       )
-
-    pub columns_safe : (n l : ℕ) (g : Graph) (U : Port → Type 0) → l + n ≡ c → ColumnsFit g U l → Safe F g U (concat_map (column b m c rows cols y) (from l n)) (Or U (Columns b m c rows cols l))
-    columns_safe zero l g U e f = λ r. (left, λ x. elim x [ left u ↦ u | right z ↦ (let p = z.low in let q = z.high in absurd (omega arith)) ])
-    columns_safe (suc n) l g U e f =
-        let h : l < c = omega arith in
-        column_fit g U l h f (concat_map (column b m c rows cols y) (from (suc l) n)) (Or U (Columns b m c rows cols l))
-        (safe_end F (concat_map (column b m c rows cols y) (from (suc l) n)) (g₃ g U l h f) (After U l) (Or (After U l) (Columns b m c rows cols (suc l))) (Or U (Columns b m c rows cols l)) (columns_more U l h)
-        (columns_safe n (suc l) (g₃ g U l h f) (After U l) (omega arith) (next_fit g U l h f)))

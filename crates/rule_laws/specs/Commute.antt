@@ -17,14 +17,15 @@ use Rattle.definitions.specs.Rules.{new, hang, commute_script}
 use Rattle.definitions.specs.Step.{Fresh}
 use Rattle.join_laws.specs.Ports.{Frame, no_frame, frame, frame_of, arity_frame, arity_same, net_frame, net_same, filled_same, Real}
 use Rattle.join_laws.specs.Link.{frame_cut}
-use Rattle.join_laws.specs.Join.{frame_join}
+use Rattle.join_laws.proofs.Join.{frame_join}
 use Rattle.script_laws.specs.Slots.{frame_fill_same, frame_fill_other}
-use Rattle.script_laws.specs.Safe.{With, was, first, second, Safe, safe_append}
+use Rattle.script_laws.specs.Safe.{With, was, first, second, Safe}
+use Rattle.script_laws.proofs.Safe.{safe_append}
 use Rattle.script_laws.specs.Loops.{Or, left, right, Row, Apart, hung, hangs_safe}
 use Rattle.script_laws.specs.Tidy.{WellWired, Tidy}
 use Rattle.rule_laws.specs.Ids.{distinct_two}
 use Rattle.rule_laws.specs.Places.{new_holes, one_of_two, not_fresh, Meet, meet, Clean, tidy_clean}
-use Rattle.rule_laws.specs.Columns.{column, Columns, Numbers, columns_safe}
+use Rattle.rule_laws.specs.Columns.{column, Columns, Numbers}
 
 -- ---- the frames after a run of hung nodes
 
@@ -55,7 +56,7 @@ module _ (P : ℕ → Port) (N : ℕ → ℕ) (x : Node) where
 -- ---- the script
 
 module _ (fresh : ℕ → ℕ) (g : Graph) (w : WellWired g) (f : Fresh g fresh) (a b : ℕ) (met : across g (port a 0) ≡ some (port b 0)) where
-  t : Meet g a b
+  pub t : Meet g a b
   t = meet g w.wired a b met
 
   abbrev pub m : ℕ
@@ -98,25 +99,25 @@ module _ (fresh : ℕ → ℕ) (g : Graph) (w : WellWired g) (f : Fresh g fresh)
   }
 
   -- after the cut, and after the rows
-  abbrev g₁ : Graph
+  abbrev pub g₁ : Graph
   g₁ = cut g (port a 0) (port b 0)
 
-  abbrev g₂ : Graph
+  abbrev pub g₂ : Graph
   g₂ = foldl apply g₁ (concat_map (hung P fresh x) (up_to m))
 
-  size_x : length x.ports ≡ arity g b
+  pub size_x : length x.ports ≡ arity g b
   unfolding new
   size_x = length-replicate (arity g b) none
 
-  size_y : length y.ports ≡ arity g a
+  pub size_y : length y.ports ≡ arity g a
   unfolding new
   size_y = length-replicate (arity g a) none
 
-  net_x : x.net ≡ (at g a).net
+  pub net_x : x.net ≡ (at g a).net
   unfolding new
   net_x = refl
 
-  net_y : y.net ≡ (at g a).net
+  pub net_y : y.net ≡ (at g a).net
   unfolding new
   net_y = refl
 
@@ -127,7 +128,7 @@ module _ (fresh : ℕ → ℕ) (g : Graph) (w : WellWired g) (f : Fresh g fresh)
     pq_apart = λ i j _ _ s. let z : 1 + i ≡ 0 = ap (λ (p : Port). p.index) s in omega arith;
   }
 
-  numbers : Numbers b m c fresh cols
+  pub numbers : Numbers b m c fresh cols
   numbers = record {
     rows_apart = f.apart;
     cols_apart = λ i j s. let z : m + i ≡ m + j = f.apart (m + i) (m + j) s in omega arith;
@@ -146,7 +147,7 @@ module _ (fresh : ℕ → ℕ) (g : Graph) (w : WellWired g) (f : Fresh g fresh)
     is = right (record { i = i; low = omega arith; high = l; is = inr (ap (port (fresh i)) (let z : suc j ≡ 1 + j = omega arith in z)) });
   })
 
-  col_later : (i j : ℕ) → i < length y.ports → j < c → Ends (port (cols j) i)
+  pub col_later : (i j : ℕ) → i < length y.ports → j < c → Ends (port (cols j) i)
   col_later zero j h l = right (record { j = j; low = omega arith; high = l; is = left (second refl) })
   col_later (suc i) j h l = right (record {
     j = j;
@@ -160,18 +161,18 @@ module _ (fresh : ℕ → ℕ) (g : Graph) (w : WellWired g) (f : Fresh g fresh)
   same₁ : (n : ℕ) → frame g₁ n ≡ frame g n
   same₁ n = frame_cut g (port a 0) (port b 0) n
 
-  old₂ : (n : ℕ) → filled g n ≡ true → frame g₂ n ≡ frame g n
+  pub old₂ : (n : ℕ) → filled g n ≡ true → frame g₂ n ≡ frame g n
   old₂ n h = hung_other P fresh x m 0 g₁ n (λ i _ _. not_fresh g fresh f n i h) ∙ same₁ n
 
-  col₂ : (j : ℕ) → frame g₂ (cols j) ≡ frame g (cols j)
+  pub col₂ : (j : ℕ) → frame g₂ (cols j) ≡ frame g (cols j)
   col₂ j = hung_other P fresh x m 0 g₁ (cols j) (λ i _ l s. numbers.crossed i j (omega arith) (sym s)) ∙ same₁ (cols j)
 
-  row₂ : (i : ℕ) → i < m → frame g₂ (fresh i) ≡ frame_of (some x)
+  pub row₂ : (i : ℕ) → i < m → frame g₂ (fresh i) ≡ frame_of (some x)
   row₂ i l = hung_new P fresh x f.apart m 0 g₁ i (omega arith) (omega arith)
 
   -- ---- the two halves
 
-  rows_fit : Safe Ends g₁ Cuts (concat_map (hung P fresh x) (up_to m)) Rows
+  pub rows_fit : Safe Ends g₁ Cuts (concat_map (hung P fresh x) (up_to m)) Rows
   rows_fit = hangs_safe Ends P fresh x m apart (new_holes (at g a).net (name_of g b) (arity g b)) (let z = t.ports_b in omega (arith, size_x)) row_later m 0 g₁ Cuts (omega arith) (record {
     vacant = λ i _ _. filled_same g g₁ (fresh i) (same₁ (fresh i)) ∙ f.vacant i;
     real = λ i _ l. rw (arity_same g g₁ a (same₁ a)) (omega arith);
@@ -190,107 +191,3 @@ module _ (fresh : ℕ → ℕ) (g : Graph) (w : WellWired g) (f : Fresh g fresh)
       new_unused i (was u) = u
       new_unused i (first s) = not_fresh g fresh f a i t.filled_a (sym (ap (λ (p : Port). p.node) s))
       new_unused i (second s) = not_fresh g fresh f b i t.filled_b (sym (ap (λ (p : Port). p.node) s))
-
-  cols_fit : Safe Ends g₂ Rows (concat_map (column b m c fresh cols y) (up_to c)) Ends
-  cols_fit = columns_safe Ends b (at g a).net m c fresh cols y numbers (new_holes (at g a).net (name_of g a) (arity g a)) net_y (let z = t.ports_a in omega (arith, size_y)) col_later c 0 g₂ Rows (omega arith) (record {
-    vacant = λ j _ _. filled_same g g₂ (cols j) (col₂ j) ∙ f.vacant (m + j);
-    real_b = λ j _ l. rw (arity_same g g₂ b (old₂ b t.filled_b)) (omega arith);
-    net_b = net_same g g₂ b (old₂ b t.filled_b) ∙ sym t.one_net;
-    real_row = λ i j q _ l. rw (arity_frame g₂ (fresh i) ∙ ap (λ (o : Option Frame). (or_else o no_frame).size) (row₂ i q)) (omega (arith, size_x));
-    net_row = λ i q. net_frame g₂ (fresh i) ∙ ap (λ (o : Option Frame). (or_else o no_frame).net) (row₂ i q) ∙ net_x;
-    unused_b = λ j _ _. b_unused j;
-    unused_col = λ i j _ _. col_unused i j;
-    unused_row = λ i j q _ _. row_unused i j q;
-  })
-    where
-      b_unused : (j : ℕ) → ¬ Rows (port b (1 + j))
-      b_unused j (left (was u)) = u
-      b_unused j (left (first s)) = let z : 1 + j ≡ 0 = ap (λ (p : Port). p.index) s in omega arith
-      b_unused j (left (second s)) = let z : 1 + j ≡ 0 = ap (λ (p : Port). p.index) s in omega arith
-      b_unused j (right r) = go r.is
-        where
-          go : (port b (1 + j) ≡ P r.i) ⊎ (port b (1 + j) ≡ Q r.i) → ⊥
-          go (inl s) = t.differ (sym (ap (λ (p : Port). p.node) s))
-          go (inr s) = numbers.b_rows r.i (ap (λ (p : Port). p.node) s)
-
-      col_unused : (i j : ℕ) → ¬ Rows (port (cols j) i)
-      col_unused i j (left (was u)) = u
-      col_unused i j (left (first s)) = not_fresh g fresh f a (m + j) t.filled_a (sym (ap (λ (p : Port). p.node) s))
-      col_unused i j (left (second s)) = not_fresh g fresh f b (m + j) t.filled_b (sym (ap (λ (p : Port). p.node) s))
-      col_unused i j (right r) = go r.is
-        where
-          go : (port (cols j) i ≡ P r.i) ⊎ (port (cols j) i ≡ Q r.i) → ⊥
-          go (inl s) = not_fresh g fresh f a (m + j) t.filled_a (sym (ap (λ (p : Port). p.node) s))
-          go (inr s) = numbers.crossed r.i j r.high (sym (ap (λ (p : Port). p.node) s))
-
-      row_unused : (i j : ℕ) → i < m → ¬ Rows (port (fresh i) (1 + j))
-      row_unused i j q (left (was u)) = u
-      row_unused i j q (left (first s)) = let z : 1 + j ≡ 0 = ap (λ (p : Port). p.index) s in omega arith
-      row_unused i j q (left (second s)) = let z : 1 + j ≡ 0 = ap (λ (p : Port). p.index) s in omega arith
-      row_unused i j q (right r) = go r.is
-        where
-          go : (port (fresh i) (1 + j) ≡ P r.i) ⊎ (port (fresh i) (1 + j) ≡ Q r.i) → ⊥
-          go (inl s) = not_fresh g fresh f a i t.filled_a (sym (ap (λ (p : Port). p.node) s))
-          go (inr s) = let z : 1 + j ≡ 0 = ap (λ (p : Port). p.index) s in omega arith
-
-  pub commuted_tidy : Tidy g commuted Ends
-  unfolding apply
-  commuted_tidy = record {
-    safe = (
-      record { wired = met; unused_a = λ u. u; unused_b = λ u. u },
-      safe_append Ends (concat_map (hung P fresh x) (up_to m)) (concat_map (column b m c fresh cols y) (up_to c)) g₁ Cuts Rows Ends rows_fit cols_fit,
-    );
-    gone = λ k d. dead k (one_of_two d);
-    only = used;
-  }
-    where
-      dead : (k : ℕ) → (k ≡ a) ⊎ (k ≡ b) → (filled g k ≡ true) × ((i : ℕ) → i < arity g k → Ends (port k i))
-      dead k (inl s) = (ap (filled g) s ∙ t.filled_a, λ i l. at_a i (subst (λ (n : ℕ). i < arity g n) s l))
-        where
-          at_a : (i : ℕ) → i < arity g a → Ends (port k i)
-          at_a zero l = left (left (first (ap (λ (n : ℕ). port n 0) s)))
-          at_a (suc i) l = left (right (record { i = i; low = omega arith; high = omega arith; is = inl (let z : suc i ≡ 1 + i = omega arith in λ u. port (s u) (z u)) }))
-      dead k (inr s) = (ap (filled g) s ∙ t.filled_b, λ i l. at_b i (subst (λ (n : ℕ). i < arity g n) s l))
-        where
-          at_b : (i : ℕ) → i < arity g b → Ends (port k i)
-          at_b zero l = left (left (second (ap (λ (n : ℕ). port n 0) s)))
-          at_b (suc i) l = right (record { j = i; low = omega arith; high = omega arith; is = left (first (let z : suc i ≡ 1 + i = omega arith in λ u. port (s u) (z u))) })
-
-      here : (r : Port) (p : Port) → p.node ≡ a → r ≡ p → Memᴰ r.node (a ∷ b ∷ []) ⊎ (filled g r.node ≡ false)
-      here r p n s = inl (Memᴰ.head (ap (λ (q : Port). q.node) s ∙ n))
-
-      there : (r : Port) (p : Port) → p.node ≡ b → r ≡ p → Memᴰ r.node (a ∷ b ∷ []) ⊎ (filled g r.node ≡ false)
-      there r p n s = inl (Memᴰ.tail (Memᴰ.head (ap (λ (q : Port). q.node) s ∙ n)))
-
-      fresh_one : (r : Port) (k i : ℕ) → r ≡ port (fresh k) i → Memᴰ r.node (a ∷ b ∷ []) ⊎ (filled g r.node ≡ false)
-      fresh_one r k i s = inr (ap (λ (q : Port). filled g q.node) s ∙ f.vacant k)
-
-      used : (r : Port) → Ends r → Memᴰ r.node (a ∷ b ∷ []) ⊎ (filled g r.node ≡ false)
-      used r (left (left (was u))) = absurd u
-      used r (left (left (first s))) = here r (port a 0) refl s
-      used r (left (left (second s))) = there r (port b 0) refl s
-      used r (left (right z)) = go z.is
-        where
-          go : (r ≡ P z.i) ⊎ (r ≡ Q z.i) → Memᴰ r.node (a ∷ b ∷ []) ⊎ (filled g r.node ≡ false)
-          go (inl s) = here r (P z.i) refl s
-          go (inr s) = fresh_one r z.i 0 s
-      used r (right z) = col z.is
-        where
-          col : Or (With (λ _. ⊥) (port b (1 + z.j)) (port (cols z.j) 0)) (Row (λ i. port (cols z.j) (1 + i)) (λ i. port (fresh i) (1 + z.j)) 0 m) r
-              → Memᴰ r.node (a ∷ b ∷ []) ⊎ (filled g r.node ≡ false)
-          col (left (was u)) = absurd u
-          col (left (first s)) = there r (port b (1 + z.j)) refl s
-          col (left (second s)) = fresh_one r (m + z.j) 0 s
-          col (right q) = go q.is
-            where
-              go : (r ≡ port (cols z.j) (1 + q.i)) ⊎ (r ≡ port (fresh q.i) (1 + z.j)) → Memᴰ r.node (a ∷ b ∷ []) ⊎ (filled g r.node ≡ false)
-              go (inl s) = fresh_one r (m + z.j) (1 + q.i) s
-              go (inr s) = fresh_one r q.i (1 + z.j) s
-
--- a commutation leaves the nets well wired
-pub commute_clean : (fresh : ℕ → ℕ) (g : Graph) → WellWired g → Fresh g fresh → (a b : ℕ) → across g (port a 0) ≡ some (port b 0)
-    → (s : Script) → commute_script fresh g a b ≡ some s → Clean g s
-unfolding commute_script hang
-commute_clean fresh g w f a b met s h =
-    subst (Clean g) (some-injective (commuted fresh g w f a b met) s h)
-    (tidy_clean g (commuted fresh g w f a b met) (Ends fresh g w f a b met) w (commuted_tidy fresh g w f a b met) (distinct_two a b (t fresh g w f a b met).differ))

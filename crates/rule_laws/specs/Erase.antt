@@ -20,7 +20,7 @@ use Rattle.rule_laws.specs.Ids.{distinct_two}
 use Rattle.rule_laws.specs.Places.{given_some, new_holes, one_of_two, not_fresh, Meet, meet, Clean, tidy_clean}
 
 module _ (fresh : ℕ → ℕ) (g : Graph) (w : WellWired g) (f : Fresh g fresh) (e n : ℕ) (met : across g (port e 0) ≡ some (port n 0)) (bare : arity g e ≡ 1) where
-  m : Meet g e n
+  pub m : Meet g e n
   m = meet g w.wired e n met
 
   abbrev pub c : ℕ
@@ -106,12 +106,3 @@ module _ (fresh : ℕ → ℕ) (g : Graph) (w : WellWired g) (f : Fresh g fresh)
           go : (r ≡ P x.i) ⊎ (r ≡ Q x.i) → Memᴰ r.node (e ∷ n ∷ []) ⊎ (filled g r.node ≡ false)
           go (inl s) = inl (Memᴰ.tail (Memᴰ.head (ap (λ (p : Port). p.node) s)))
           go (inr s) = inr (ap (λ (p : Port). filled g p.node) s ∙ f.vacant x.i)
-
--- an erasure leaves the nets well wired
-pub erase_clean : (fresh : ℕ → ℕ) (g : Graph) → WellWired g → Fresh g fresh → (e n : ℕ) → across g (port e 0) ≡ some (port n 0)
-    → (s : Script) → erase_script fresh g e n ≡ some s → Clean g s
-unfolding erase_script hang new
-erase_clean fresh g w f e n met s h =
-    let x = given_some (eqb (arity g e) 1) (record { edits = Cut (port e 0) (port n 0) ∷ concat_map (λ i. hang fresh g i (new (at g e).net (name_of g e) 1) (port n (1 + i))) (up_to (arity g n - 1)); dead = e ∷ n ∷ [] }) s h in
-    let bare : arity g e ≡ 1 = eqb-true (arity g e) 1 x.0 in
-    subst (Clean g) x.1 (tidy_clean g (erased fresh g w f e n met bare) (Ends fresh g w f e n met bare) w (erased_tidy fresh g w f e n met bare) (distinct_two e n (m fresh g w f e n met bare).differ))

@@ -17,8 +17,9 @@ use Rattle.definitions.specs.Scripts.{Edit, Join, Cut, Script, join, cut, apply}
 use Rattle.definitions.specs.Rules.{straight, nil_pair, eta_cuts, eta_nils, eta_pair}
 use Rattle.join_laws.specs.Ports.{same_port_lem, same_port_true, same_port_false, Real, across_real}
 use Rattle.join_laws.specs.Link.{cut_other}
-use Rattle.join_laws.specs.Join.{join_kept}
-use Rattle.script_laws.specs.Safe.{With, was, first, second, Safe, safe_same}
+use Rattle.join_laws.proofs.Join.{join_kept}
+use Rattle.script_laws.specs.Safe.{With, was, first, second, Safe}
+use Rattle.script_laws.proofs.Safe.{safe_same}
 use Rattle.script_laws.specs.Loops.{Or, left, right, safe_end}
 use Rattle.script_laws.specs.Tidy.{WellWired, Tidy, real_filled}
 use Rattle.rule_laws.specs.Places.{given_some, zip_rows, Clean, tidy_clean, follow_across, across_follow, follow_real, follow_back, follow_filled}

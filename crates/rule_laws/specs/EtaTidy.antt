@@ -16,7 +16,7 @@ use Rattle.definitions.specs.Nets.{Port, Graph, port, same_port, is_principal, a
 use Rattle.definitions.specs.Scripts.{Edit, Join, Cut, Script, join, apply}
 use Rattle.definitions.specs.Rules.{straight, eta_cuts, eta_nils}
 use Rattle.join_laws.specs.Ports.{same_port_lem, same_port_true, same_port_self, same_port_false, Real}
-use Rattle.join_laws.specs.Join.{join_kept}
+use Rattle.join_laws.proofs.Join.{join_kept}
 use Rattle.script_laws.specs.Safe.{With, was, first, second}
 use Rattle.script_laws.specs.Loops.{Or, left, right}
 use Rattle.script_laws.specs.Tidy.{WellWired, Tidy, real_filled}

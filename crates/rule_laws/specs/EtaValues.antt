@@ -18,7 +18,8 @@ use Rattle.definitions.specs.Step.{Fresh}
 use Rattle.join_laws.specs.Ports.{Frame, no_frame, same_port_lem, frame, arity_frame, arity_same, net_frame, net_same, filled_same, Real}
 use Rattle.join_laws.specs.Link.{frame_cut}
 use Rattle.script_laws.specs.Slots.{frame_fill_same, frame_fill_other}
-use Rattle.script_laws.specs.Safe.{With, was, first, second, Safe, safe_append}
+use Rattle.script_laws.specs.Safe.{With, was, first, second, Safe}
+use Rattle.script_laws.proofs.Safe.{safe_append}
 use Rattle.script_laws.specs.Loops.{Or, left, right, Row, Apart, cuts_safe}
 use Rattle.script_laws.specs.Tidy.{WellWired, Tidy, real_filled}
 use Rattle.rule_laws.specs.Ids.{distinct_cons, distinct_row}

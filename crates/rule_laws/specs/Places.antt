@@ -17,7 +17,8 @@ use Rattle.join_laws.specs.Ports.{frame, filled_same, Real, across_real}
 use Rattle.join_laws.specs.Link.{Wired}
 use Rattle.script_laws.specs.Slots.{Holes}
 use Rattle.script_laws.specs.Safe.{AllAway, safe_away}
-use Rattle.script_laws.specs.Tidy.{WellWired, Tidy, real_filled, dead_frame, tidy_wired, frame_kept, wire_kept, ported_kept}
+use Rattle.script_laws.specs.Tidy.{WellWired, Tidy, real_filled, dead_frame, frame_kept, ported_kept}
+use Rattle.script_laws.proofs.Tidy.{tidy_wired, wire_kept}
 
 -- ---- what a script keeps
 

@@ -50,71 +50,31 @@ module _ (s : List ℕ) (is : Bytes s) (f : File FlatNet) (e : read flat s ≡ o
   -- ---- one rule more
 
   module _ (n at : ℕ) (sets : List ℕ) (more : n < length f.rules) (there : at ≡ within s (rule_place s n)) (b : Built s f n sets) where
-    here : at ≡ rule_place s n
+    pub here : at ≡ rule_place s n
     here = omega (arith, there, (flat_stands s f e).rule_inside n (omega arith))
 
-    rule_is : rule_here s at ≡ rule_of f n
+    pub rule_is : rule_here s at ≡ rule_of f n
     rule_is =
         let t = ((flat_stands s f e).rule n at (annihilate []) more there).tagged in
         rule_here_is s at (omega arith) ∙ sym ((flat_stands s f e).rule_is n at (annihilate []) more there)
 
-    few : n < 64
+    pub few : n < 64
     few = omega (arith, (read_bounds s is f e).few_rules)
 
-    placed : List ℕ
+    unfoldable pub placed : List ℕ
     placed = set sets (2048 + n) at
 
-    adds : Adds n (λ p k. listed (collected k (rule_of f n)) p) placed (add_rule placed n (bit_of n) (rule_of f n))
-    unfolding placed
-    adds =
-        rule_adds n (length f.paths) few (read_bounds s is f e).few_paths (rule_of f n) ((read_bounds s is f e).rule n (annihilate []) more)
-        (set sets (2048 + n) at) (let l = b.long in omega (arith, length-set sets (2048 + n) at))
-
-    set_kept : (p k : ℕ) → p < 256 → k < 6 → set_of placed p k ≡ set_of sets p k
+    pub set_kept : (p k : ℕ) → p < 256 → k < 6 → set_of placed p k ≡ set_of sets p k
     unfolding placed
     set_kept p k hp hk = get_or-set_other sets (2048 + n) (8 * p + k) at 0 (omega arith)
 
-    rule_built : Built s f (n + 1) (add_rule placed n (bit_of n) (rule_of f n))
-    unfolding placed
-    rule_built = record {
-      long = let l = b.long in omega (arith, adds.long, length-set sets (2048 + n) at);
-      known = λ p k r hp hk hr. elim (ℕ_discrete r n) [
-        | yes i ↦ rw i (adds.own p k hk ∙ or_false _ _ (ap (λ (x : ℕ). has x n) (set_kept p k hp hk) ∙ b.unknown p k n hp hk (omega arith)))
-        | no i ↦ adds.others p k r hk i ∙ ap (λ (x : ℕ). has x r) (set_kept p k hp hk) ∙ b.known p k r hp hk (omega arith)
-      ];
-      unknown = λ p k r hp hk hr. adds.others p k r hk (omega arith) ∙ ap (λ (x : ℕ). has x r) (set_kept p k hp hk) ∙ b.unknown p k r hp hk (omega arith);
-      place = λ r hr. adds.places (2048 + r) (omega arith) ∙ elim (ℕ_discrete r n) [
-        | yes i ↦ rw i (get_or-set_same sets (2048 + n) at 0 (let l = b.long in let z = few in omega arith) ∙ here)
-        | no i ↦ get_or-set_other sets (2048 + n) (2048 + r) at 0 (omega arith) ∙ b.place r (omega arith)
-      ];
-    }
-
-    rule_added : Built s f (n + 1) (add_rule (set sets (2048 + n) at) n (bit_of n) (rule_here s at))
-    unfolding placed
-    rule_added = rw rule_is rule_built
-
-  -- ---- all of them
-
-  rules_added : (m n at : ℕ) (sets : List ℕ) → n + m ≡ length f.rules → at ≡ within s (rule_place s n) → Built s f n sets → Built s f (length f.rules) (add_rules s at n m sets)
-  unfolding add_rules
-  rules_added zero n at sets c h b = let d : n ≡ length f.rules = omega arith in subst (λ (j : ℕ). Built s f j sets) d b
-  rules_added (suc m) n at sets c h b =
-      rules_added m (n + 1) (within s (rule_end s at)) _ (omega arith) (rule_next s (rule_count_at s + 2) n at (within s (rule_end s at)) h refl)
-      (rule_added n at sets (omega arith) h b)
-
-  zeros_built : (l : ℕ) → 2112 ≤ l → Built s f 0 (replicate l 0)
+  pub zeros_built : (l : ℕ) → 2112 ≤ l → Built s f 0 (replicate l 0)
   zeros_built l h = record {
     long = omega (arith, length-replicate {A = ℕ} l 0);
     known = λ p k r hp hk hr. absurd (omega arith);
     unknown = λ p k r hp hk hr. ap (λ (x : ℕ). has x r) (get_or-replicate l (8 * p + k) 0 0 (omega arith)) ∙ has_none r;
     place = λ r hr. absurd (omega arith);
   }
-
-  -- the sets made from zeros
-  pub rule_sets_built : (l : ℕ) → 2112 ≤ l → Built s f (length f.rules) (rule_sets s (replicate l 0))
-  unfolding rule_sets table_end
-  rule_sets_built l h =
-      rules_added (be16 s (rule_count_at s)) 0 (within s (rule_count_at s + 2)) (replicate l 0) (omega (arith, (flat_stands s f e).rule_count)) refl (zeros_built l h)
 
 -- ---- what they mean
 

@@ -13,9 +13,9 @@ use Rattle.definitions.specs.Scripts.{Edit, Insert, Join, Cut, fill, join, cut, 
 use Rattle.definitions.specs.Rules.{hang}
 use Rattle.join_laws.specs.Ports.{Frame, no_frame, frame, arity_frame, arity_same, net_same, net_frame, filled_same, Real}
 use Rattle.join_laws.specs.Link.{frame_cut, cut_other}
-use Rattle.join_laws.specs.Join.{frame_join}
+use Rattle.join_laws.proofs.Join.{frame_join}
 use Rattle.script_laws.specs.Slots.{Holes, frame_fill_same, frame_fill_other}
-use Rattle.script_laws.specs.Safe.{With, was, first, second, Fits, Used, Safe, CanJoin, CanCut, CanInsert, safe_same}
+use Rattle.script_laws.specs.Safe.{With, was, first, second, Fits, Used, Safe, CanJoin, CanCut, CanInsert}
 
 -- of the one set or of the other
 pub data Or (U W : Port → Type 0) (r : Port) : Type 0 where

@@ -12,7 +12,7 @@ use Rattle.definitions.specs.Scripts.{Edit, Script, apply, vacate, apply_script}
 use Rattle.join_laws.specs.Ports.{Frame, no_frame, frame, arity_frame, arity_same, net_same, filled_frame, filled_same, Real, across_real}
 use Rattle.join_laws.specs.Link.{Wired}
 use Rattle.script_laws.specs.Slots.{frame_vacate_same, frame_vacate_other, across_vacate, across_vacant}
-use Rattle.script_laws.specs.Safe.{Safe, Born, Turns, edits_wired, edits_kept, frame_edits}
+use Rattle.script_laws.specs.Safe.{Safe, Born, Turns, frame_edits}
 
 -- well wired: links agree at both ends and within one net, and no port is a hole
 pub record WellWired (g : Graph) : Type 0 where
@@ -30,7 +30,7 @@ pub across_past : (g : Graph) (n i : ℕ) → arity g n ≤ i → across g (port
 unfolding across arity
 across_past g n i l = get_or-eq_default (at g n).ports none l
 
-hole : (o : Option Port) → is_some o ≡ false → o ≡ none
+pub hole : (o : Option Port) → is_some o ≡ false → o ≡ none
 hole none e = refl
 hole (some q) e = absurd (true≢false e)
 
@@ -52,7 +52,7 @@ real_filled g r h = go (filled g r.node) refl
 
 -- ---- nodes of holes go
 
-vacates_across : (ds : List ℕ) (g : Graph) → ((n : ℕ) → Memᴰ n ds → (i : ℕ) → across g (port n i) ≡ none)
+pub vacates_across : (ds : List ℕ) (g : Graph) → ((n : ℕ) → Memᴰ n ds → (i : ℕ) → across g (port n i) ≡ none)
     → (r : Port) → across (foldl vacate g ds) r ≡ across g r
 vacates_across [] g h r = refl
 vacates_across (d ∷ ds) g h r =
@@ -87,11 +87,8 @@ module _ (g : Graph) (s : Script) (Z : Port → Type 0) (w : WellWired g) (t : T
   abbrev pub h : Graph
   h = foldl apply g s.edits
 
-  start : Turns g g (λ _. ⊥)
+  pub start : Turns g g (λ _. ⊥)
   start = record { used = λ r u. absurd u; rest = λ r n. refl }
-
-  made : Wired h × Turns g h Z
-  made = edits_wired Z s.edits g g (λ _. ⊥) Z w.wired start t.safe
 
   -- a dead node kept its frame, and all its ports are holes
   pub dead_frame : (n : ℕ) → Memᴰ n s.dead → frame h n ≡ frame g n
@@ -101,64 +98,16 @@ module _ (g : Graph) (s : Script) (Z : Port → Type 0) (w : WellWired g) (t : T
       go (inl e) = e
       go (inr x) = absurd (true≢false (sym (t.gone n m).0 ∙ x.0))
 
-  dead_holes : (n : ℕ) → Memᴰ n s.dead → (i : ℕ) → across h (port n i) ≡ none
-  dead_holes n m i = go (dec_lt i (arity g n))
-    where
-      go : Dec (i < arity g n) → across h (port n i) ≡ none
-      go (yes l) = hole (across h (port n i)) (made.1.used (port n i) ((t.gone n m).1 i l) ∙ ap not (w.full (port n i) l))
-      go (no l) = across_past h n i (let e = arity_same g h n (dead_frame n m) in omega arith)
-
-  pub script_across : (r : Port) → across (apply_script g s) r ≡ across h r
-  unfolding apply_script
-  script_across = vacates_across s.dead h dead_holes
-
   -- what is left: its node is not dead, and is as it was after the edits
-  left : (n : ℕ) → ¬ (frame (apply_script g s) n ≡ none) → (¬ Memᴰ n s.dead) × (frame (apply_script g s) n ≡ frame h n)
+  pub left : (n : ℕ) → ¬ (frame (apply_script g s) n ≡ none) → (¬ Memᴰ n s.dead) × (frame (apply_script g s) n ≡ frame h n)
   unfolding apply_script
   left n e =
       let d : ¬ Memᴰ n s.dead = λ m. e (vacates_gone s.dead h n m) in
       (d, vacates_other s.dead h n d)
 
-  real_frame : (k : Graph) (r : Port) → Real k r → ¬ (frame k r.node ≡ none)
+  pub real_frame : (k : Graph) (r : Port) → Real k r → ¬ (frame k r.node ≡ none)
   real_frame k r l e =
       let z : arity k r.node ≡ 0 = arity_frame k r.node ∙ ap (λ (o : Option Frame). (or_else o no_frame).size) e in omega arith
-
-  script_full : (r : Port) → Real (apply_script g s) r → is_some (across (apply_script g s) r) ≡ true
-  script_full r l =
-      let x = left r.node (real_frame (apply_script g s) r l) in
-      let y : Real h r = subst (λ (k : ℕ). r.index < k) (arity_same h (apply_script g s) r.node x.1) l in
-      ap is_some (script_across r) ∙ go x.0 y (frame_edits Z s.edits g (λ _. ⊥) Z t.safe r.node)
-    where
-      old : ¬ Memᴰ r.node s.dead → Real g r → ¬ Z r
-      old d y z = via (t.only r z)
-        where
-          via : Memᴰ r.node s.dead ⊎ (filled g r.node ≡ false) → ⊥
-          via (inl m) = d m
-          via (inr v) = true≢false (sym (real_filled g r y) ∙ v)
-
-      go : ¬ Memᴰ r.node s.dead → Real h r
-          → (frame h r.node ≡ frame g r.node) ⊎ Born Z g h r.node
-          → is_some (across h r) ≡ true
-      go d y (inl e) =
-          let z : Real g r = subst (λ (k : ℕ). r.index < k) (arity_same g h r.node e) y in
-          made.1.rest r (old d z) ∙ w.full r z
-      go d y (inr x) = made.1.used r (x.1 r.index y) ∙ ap (λ (o : Option Port). not (is_some o)) (across_vacant g r x.0)
-
-  script_wired : Wired (apply_script g s)
-  script_wired = record {
-    back = λ p q e. script_across q ∙ made.0.back p q (sym (script_across p) ∙ e);
-    apart = λ p e. made.0.apart p (sym (script_across p) ∙ e);
-    within = λ p q e.
-        let k = sym (script_across p) ∙ e in
-        net p q e ∙ made.0.within p q k ∙ sym (net q p (script_across q ∙ made.0.back p q k));
-  }
-    where
-      net : (p q : Port) → across (apply_script g s) p ≡ some q → (at (apply_script g s) p.node).net ≡ (at h p.node).net
-      net p q e = net_same h (apply_script g s) p.node (left p.node (real_frame (apply_script g s) p (across_real (apply_script g s) p q e))).1
-
-  -- a tidy script leaves the nets well wired
-  pub tidy_wired : WellWired (apply_script g s)
-  tidy_wired = record { wired = script_wired; full = script_full }
 
   -- a node that does not die keeps its net, its name and its number of ports
   pub frame_kept : (n : ℕ) → filled g n ≡ true → ¬ Memᴰ n s.dead → frame (apply_script g s) n ≡ frame g n
@@ -168,20 +117,6 @@ module _ (g : Graph) (s : Script) (Z : Port → Type 0) (w : WellWired g) (t : T
       go : (frame h n ≡ frame g n) ⊎ Born Z g h n → frame h n ≡ frame g n
       go (inl e) = e
       go (inr x) = absurd (true≢false (sym f ∙ x.0))
-
-  -- a wire between two nodes that do not die stays
-  pub wire_kept : (p q : Port) → across g p ≡ some q → ¬ Memᴰ p.node s.dead → ¬ Memᴰ q.node s.dead → across (apply_script g s) p ≡ some q
-  wire_kept p q e dp dq =
-      script_across p ∙ edits_kept Z s.edits g g (λ _. ⊥) Z w.wired start t.safe p q e
-      (unused p dp (real_filled g p (across_real g p q e)))
-      (unused q dq (real_filled g q (across_real g q p (w.wired.back p q e))))
-    where
-      unused : (r : Port) → ¬ Memᴰ r.node s.dead → filled g r.node ≡ true → ¬ Z r
-      unused r d f z = via (t.only r z)
-        where
-          via : Memᴰ r.node s.dead ⊎ (filled g r.node ≡ false) → ⊥
-          via (inl m) = d m
-          via (inr v) = true≢false (sym f ∙ v)
 
   -- every node that is left has a port, if every node had one
   pub ported_kept : ((n : ℕ) → filled g n ≡ true → 0 < arity g n) → (n : ℕ) → filled (apply_script g s) n ≡ true → 0 < arity (apply_script g s) n

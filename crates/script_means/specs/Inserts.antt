@@ -32,7 +32,8 @@ use Rattle.means.specs.Means.{no_net}
 use Rattle.means.specs.Frame.{real_inside}
 use Rattle.graph_means.specs.Marks.{CanMark}
 use Rattle.good_means.specs.Room.{listed_room, pending_bound}
-use Rattle.edits_means.specs.Place.{CanPlace, Agrees, insert_node_means}
+use Rattle.edits_means.specs.Place.{CanPlace, Agrees}
+use Rattle.edits_means.proofs.Place.{insert_node_means}
 use Rattle.script_means.specs.Dead.{dead_keep}
 use Rattle.script_means.specs.Stays.{insert_node_stays}
 use Rattle.script_means.specs.Stage.{Stage, wired_next}

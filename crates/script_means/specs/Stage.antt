@@ -17,7 +17,7 @@ use Rattle.good_laws.specs.Marks.{mark_good, rewired_good}
 use Rattle.good_laws.specs.Edits.{Edited, edits_good}
 use Rattle.join_laws.specs.Ports.{Real, filled_same, across_real}
 use Rattle.join_laws.specs.Link.{Wired}
-use Rattle.join_laws.specs.Join.{frame_join}
+use Rattle.join_laws.proofs.Join.{frame_join}
 use Rattle.script_laws.specs.Safe.{CanJoin, CanCut, Fits, edit_wired}
 use Rattle.script_laws.specs.Tidy.{real_filled}
 use Rattle.means.specs.Means.{number, Means}

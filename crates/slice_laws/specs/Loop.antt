@@ -10,7 +10,8 @@ use Rattle.definitions.specs.State.{Engine, with_dirty}
 use Rattle.definitions.specs.Visit.{Visited, acted, passed, less_one}
 use Rattle.definitions.specs.Run.{turn, with_items, spent, next, run}
 use Rattle.engine_laws.specs.Frame.{frame, steps_kept}
-use Rattle.engine_laws.specs.Turns.{Counts, turn_counts}
+use Rattle.engine_laws.specs.Turns.{Counts}
+use Rattle.engine_laws.proofs.Turns.{turn_counts}
 use Rattle.slice_laws.specs.Sums.{◌⊕◌, less_plus, spent_plus, plus_spent}
 
 -- ---- the next entry

@@ -18,7 +18,7 @@ use Rattle.definitions.specs.Books.{fresh, edit, remove_node, finish_edit}
 use Rattle.definitions.specs.Visit.{Visited, acted, passed, less_one, act}
 use Rattle.join_laws.specs.Ports.{frame, filled_same}
 use Rattle.join_laws.specs.Link.{frame_cut}
-use Rattle.join_laws.specs.Join.{frame_join}
+use Rattle.join_laws.proofs.Join.{frame_join}
 use Rattle.script_laws.specs.Slots.{frame_vacate_other}
 use Rattle.rule_laws.specs.Ids.{distinct_head}
 use Rattle.rule_laws.specs.Order.{InOrder}

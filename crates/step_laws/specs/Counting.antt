@@ -120,10 +120,10 @@ pub record Counted (path : ℕ) (c d : Core) (k : ℕ) : Type 0 where
   pub homes : d.homes ≡ c.homes
   pub rules : d.rules ≡ c.rules
 
-none_counted : (path : ℕ) (c : Core) → Ready path c → Counted path c c 0
+pub none_counted : (path : ℕ) (c : Core) → Ready path c → Counted path c c 0
 none_counted path c r = record { steps = done; count = omega arith; limit = less_none c.limit; ready = r; homes = refl; rules = refl }
 
-more_counted : (path : ℕ) (c d e : Core) (k : ℕ) → OneStep path c d → Counted path d e k → Counted path c e (suc k)
+pub more_counted : (path : ℕ) (c d e : Core) (k : ℕ) → OneStep path c d → Counted path d e k → Counted path c e (suc k)
 more_counted path c d e k o x = record {
   steps = after o.step (subst (λ (hs : List Home). Steps c.rules hs k d.graph e.graph) o.homes (subst (λ (rs : List Rule). Steps rs d.homes k d.graph e.graph) o.rules x.steps));
   count = let y = x.count in let z = o.steps in omega arith;
@@ -133,7 +133,7 @@ more_counted path c d e k o x = record {
   rules = x.rules ∙ o.rules;
 }
 
-counted_by : (e e'' : Engine) (j k : ℕ) → (core_of e'').steps ≡ (core_of e).steps + j → e''.steps - e.steps ≡ k → j ≡ k
+pub counted_by : (e e'' : Engine) (j k : ℕ) → (core_of e'').steps ≡ (core_of e).steps + j → e''.steps - e.steps ≡ k → j ≡ k
 unfolding core_of
 counted_by e e'' j k u v = omega arith
 
@@ -145,68 +145,10 @@ module _ (path : ℕ) (Books : Engine → Type 0) (marked : (e : Engine) → Boo
     pub counted : Counted path (core_of e) (core_of e') taken
     pub books : Books e'
 
-  core_items : (ns : List ℕ) (e : Engine) → core_of (with_items ns e) ≡ core_of e
+  pub core_items : (ns : List ℕ) (e : Engine) → core_of (with_items ns e) ≡ core_of e
   unfolding with_items with_dirty core_of
   core_items ns e = refl
 
-  marked_items : (ns : List ℕ) (e : Engine) → Marked e → Marked (with_items ns e)
+  pub marked_items : (ns : List ℕ) (e : Engine) → Marked e → Marked (with_items ns e)
   unfolding with_items with_dirty is_dirty net_at
   marked_items ns e m = m
-
-  run_counted : (f : ℕ) (n : Option ℕ) (e e' : Engine) → Ready path (core_of e) → Books e → run f n e ≡ ok e' → Ran e e'
-  unfolding run
-  run_counted zero n e e' r b h = let z : ◌≡◌ {A = ℕ} 0 1 = cc in absurd (omega arith)
-  run_counted (suc f) n e e' r b h = go (next n e) refl h (λ n' e''. run_counted f n' e'' e')
-    where
-      go : (o : Option (List ℕ × ℕ)) → next n e ≡ o
-          → elim o as (λ _. Result Engine) [
-            | none ↦ ok e
-            | some p ↦ turn p.1 (with_items p.0 e) >>= λ v. elim v as (λ _. Result Engine) [ acted e'' ↦ run f (less_one n) e'' | passed e'' ↦ run f n e'' ]
-          ] ≡ ok e'
-          → ((n' : Option ℕ) (e'' : Engine) → Ready path (core_of e'') → Books e'' → run f n' e'' ≡ ok e' → Ran e'' e')
-          → Ran e e'
-      go none x y k = stop (ok_injective y)
-        where
-          ok_injective : ◌≡◌ {A = Result Engine} (ok e) (ok e') → e ≡ e'
-          ok_injective q = ap (λ (t : Result Engine). elim t as (λ _. Engine) [ ok u ↦ u | refuse u ↦ e ]) q
-
-          stop : e ≡ e' → Ran e e'
-          stop q = subst (Ran e) q (record { taken = 0; counted = none_counted path (core_of e) r; books = b })
-      go (some p) x y k =
-          via (turn p.1 (with_items p.0 e)) (turn_steps path p.1 (with_items p.0 e) (subst (Ready path) (sym (core_items p.0 e)) r) (marked_items p.0 e (marked e b))) (kept n e p b x) y
-        where
-          via : (q : Result Visited) → Turns path (with_items p.0 e) q → After Books Books q
-              → (q >>= λ v. elim v as (λ _. Result Engine) [ acted e'' ↦ run f (less_one n) e'' | passed e'' ↦ run f n e'' ]) ≡ ok e' → Ran e e'
-          via (refuse q) t u s = let z : ◌≡◌ {A = ℕ} 0 1 = cc in absurd (omega arith)
-          via (ok (acted e'')) t u s =
-              let one = subst (λ (c : Core). OneStep path c (core_of e'')) (core_items p.0 e) t in
-              let rest = k (less_one n) e'' one.ready u s in
-              record { taken = suc rest.taken; counted = more_counted path (core_of e) (core_of e'') (core_of e') rest.taken one rest.counted; books = rest.books }
-          via (ok (passed e'')) t u s =
-              let same = t ∙ core_items p.0 e in
-              let rest = k n e'' (subst (Ready path) (sym same) r) u s in
-              record { taken = rest.taken; counted = subst (λ (c : Core). Counted path c (core_of e') rest.taken) same rest.counted; books = rest.books }
-
-  -- `steps-counted`: the nets after a slice come from those before by as many steps of registered rules as were deducted
-  pub steps_counted : (n : Option ℕ) (e e' : Engine) (k : ℕ) → Ready path (core_of e) → Books e → run_slice n e ≡ ok (e', k)
-      → Counted path (core_of e) (core_of e') k × Books e'
-  unfolding run_slice
-  steps_counted n e e' k r b h = go (run fuel n e) refl h
-    where
-      pair_of : Result (Engine × ℕ) → Engine × ℕ
-      pair_of (ok x) = x
-      pair_of (refuse q) = (e, 0)
-
-      go : (q : Result Engine) → run fuel n e ≡ q → ◌>>=◌ {B = Engine × ℕ} q (λ e''. ok (e'', e''.steps - e.steps)) ≡ ok (e', k) → Counted path (core_of e) (core_of e') k × Books e'
-      go (refuse q) x y = let z : ◌≡◌ {A = ℕ} 0 1 = cc in absurd (omega arith)
-      go (ok e'') x y =
-          let s : e'' ≡ e' = ap (λ (t : Result (Engine × ℕ)). (pair_of t).0) y in
-          let d : e''.steps - e.steps ≡ k = ap (λ (t : Result (Engine × ℕ)). (pair_of t).1) y in
-          let ran = run_counted fuel n e e'' r b x in
-          let taken : ran.taken ≡ k = deducted ran.taken ran.counted.count d in (
-            subst (λ (t : Engine). Counted path (core_of e) (core_of t) k) s (subst (Counted path (core_of e) (core_of e'')) taken ran.counted),
-            subst Books s ran.books,
-          )
-        where
-          deducted : (j : ℕ) → (core_of e'').steps ≡ (core_of e).steps + j → e''.steps - e.steps ≡ k → j ≡ k
-          deducted j u v = counted_by e e'' j k u v

@@ -16,7 +16,7 @@ use Rattle.definitions.specs.State.{Ids, Net, Engine, graph_of, with_slots, with
 use Rattle.definitions.specs.Books.{is_dirty, loose, push, tight, tighten_net, push_dirty, fresh, placed, add_node, mark_ends, link, edit, vacated, went_dirty, remove_node, finish_edit}
 use Rattle.join_laws.specs.Ports.{frame, filled_same}
 use Rattle.join_laws.specs.Link.{frame_cut}
-use Rattle.join_laws.specs.Join.{frame_join}
+use Rattle.join_laws.proofs.Join.{frame_join}
 use Rattle.script_laws.specs.Slots.{frame_vacate_other}
 use Rattle.step_laws.specs.Core.{Core, core_of, list_of, home_of, pick, core_over_net, core_more, core_dirty, core_push_dirty, core_mark_ends, core_went_dirty}
 use Rattle.step_laws.specs.Track.{list_at, Tracked, regraph, placed_in, vacated_in, tight_in, length_cut, length_join, tracked_frames, tracked_placed, tracked_vacated, tracked_tight}

@@ -12,7 +12,7 @@ use Rattle.net_file.specs.Write.{be, counted, write_tree_net}
 use Rattle.net_file.specs.Checks.{flat, tree, read, write}
 use Rattle.net_file_laws.specs.Bytes.{Bytes}
 use Rattle.net_file_laws.specs.Exact.{Each}
-use Rattle.net_file_laws.specs.RoundTrip.{flat_write_read}
+use Rattle.net_file_laws.proofs.RoundTrip.{flat_write_read}
 use Rattle.conversions.specs.Links.{canonical, links_of}
 use Rattle.conversions.specs.Convert.{◌>>=◌, to_tree}
 use Rattle.conversions.specs.Calls.{convert, fitted, to_tree_call}

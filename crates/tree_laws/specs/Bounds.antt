@@ -6,7 +6,8 @@ use Rattle.net_file.specs.Checks.{same_name, nodes_of, trees_of, tree, ordered, 
 use Rattle.net_file_laws.specs.Bytes.{Bytes}
 use Rattle.net_file_laws.specs.Trees.{TreeNetFits}
 use Rattle.net_file_laws.specs.Body.{LimitFits, TablesFit}
-use Rattle.net_file_laws.specs.RoundTrip.{Spells, tree_write_read}
+use Rattle.net_file_laws.specs.RoundTrip.{Spells}
+use Rattle.net_file_laws.proofs.RoundTrip.{tree_write_read}
 use Rattle.readers_laws.specs.Few.{one_more}
 use Rattle.readers_laws.specs.Bounds.{each_get}
 

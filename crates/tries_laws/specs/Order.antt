@@ -73,7 +73,7 @@ once true false o = true ∷ []
 once false true o = false ∷ []
 once false false o = []
 
-once_straight : (s t o : Bool) → straight (once s t o) ≡ s
+pub once_straight : (s t o : Bool) → straight (once s t o) ≡ s
 unfolding once
 once_straight true true true = refl
 once_straight true true false = refl
@@ -81,7 +81,7 @@ once_straight true false o = refl
 once_straight false true o = refl
 once_straight false false o = refl
 
-once_flipped : (s t o : Bool) → flipped (once s t o) ≡ t
+pub once_flipped : (s t o : Bool) → flipped (once s t o) ≡ t
 unfolding once
 once_flipped true true true = refl
 once_flipped true true false = refl
@@ -104,15 +104,10 @@ flipped_first [] s t = let z : ◌≡◌ {A = ℕ} 0 1 = cc in absurd (omega ari
 flipped_first (true ∷ bs) s t = let z : ◌≡◌ {A = ℕ} 0 1 = cc in absurd (omega arith)
 flipped_first (false ∷ bs) s t = refl
 
-once_first : (bs : List Bool) (s t o : Bool) → straight bs ≡ s → flipped bs ≡ t → (s ≡ true → t ≡ true → first_of bs ≡ some o) → first_of bs ≡ first_of (once s t o)
+pub once_first : (bs : List Bool) (s t o : Bool) → straight bs ≡ s → flipped bs ≡ t → (s ≡ true → t ≡ true → first_of bs ≡ some o) → first_of bs ≡ first_of (once s t o)
 unfolding once
 once_first bs true true true i j h = h refl refl
 once_first bs true true false i j h = h refl refl
 once_first bs true false o i j h = straight_first bs i j
 once_first bs false true o i j h = flipped_first bs i j
 once_first bs false false o i j h = ap first_of (neither_is bs i j)
-
-pub tried_once : (f : Bool → Try) (e : Engine) → ((b : Bool) → Pure (f b) e) → (bs : List Bool) (s t o : Bool) → straight bs ≡ s → flipped bs ≡ t
-    → (s ≡ true → t ≡ true → first_of bs ≡ some o) → attempts (map f bs) e ≡ attempts (map f (once s t o)) e
-tried_once f e pure bs s t o i j h =
-    tried_alike f e pure bs (once s t o) (i ∙ sym (once_straight s t o)) (j ∙ sym (once_flipped s t o)) (once_first bs s t o i j h)

@@ -34,7 +34,8 @@ use Rattle.held_names.specs.Free.{neither, rule_unnamed}
 use Rattle.rule_means.specs.Collected.{first_paths, second_paths, collected}
 use Rattle.rule_means.specs.Built.{rule_of, Built, rule_stands_at}
 use Rattle.tries_laws.specs.Attempts.{attempts_one}
-use Rattle.tries_laws.specs.Order.{once, neither_is, tried_once}
+use Rattle.tries_laws.specs.Order.{once, neither_is}
+use Rattle.tries_laws.proofs.Order.{tried_once}
 use Rattle.tries_laws.specs.Pairs.{told, turned, cross_straight, cross_flipped, self_straight, self_flipped}
 use Rattle.visit_means.specs.Tells.{Tells}
 use Rattle.visit_means.specs.Pairs.{on_pair, turned_pure, pair_is, cross_once, registered_is, pair_tried}

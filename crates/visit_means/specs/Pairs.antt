@@ -23,7 +23,8 @@ use Rattle.visit.specs.Visits.{meeting}
 use Rattle.rule_means.specs.Collected.{first_paths, second_paths, collected}
 use Rattle.rule_means.specs.Built.{rule_of, Built, has_is}
 use Rattle.tries_laws.specs.Attempts.{Pure, attempts_cons, attempts_one, interaction_pure}
-use Rattle.tries_laws.specs.Order.{first_of, once, tried_once}
+use Rattle.tries_laws.specs.Order.{first_of, once}
+use Rattle.tries_laws.proofs.Order.{tried_once}
 use Rattle.tries_laws.specs.Pairs.{told, turned, pairs_told, cross_straight, cross_flipped}
 use Rattle.visit_means.specs.Tells.{Tells, tells_next}
 use Rattle.visit_means.specs.First.{cross_first}

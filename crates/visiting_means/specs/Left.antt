@@ -8,8 +8,9 @@ use Rattle.definitions.specs.Books.{finish_edit_net}
 use Rattle.engine_laws.specs.Frame.{Outline, Still, still_frame, pools_kept, rules_kept, homes_kept, steps_kept, fewer_still, finish_net_still}
 use Rattle.good_laws.specs.Good.{bump, rest}
 use Rattle.good_laws.specs.Marks.{fewer_good}
-use Rattle.good_laws.specs.Answers.{fewer_awaits, finish_net_good}
-use Rattle.good_laws.specs.Settled.{leave_idle}
+use Rattle.good_laws.specs.Answers.{fewer_awaits}
+use Rattle.good_laws.proofs.AnswersLaws.{finish_net_good}
+use Rattle.good_laws.proofs.Settled.{leave_idle}
 use Rattle.good_laws.specs.Sound.{of_same}
 use Rattle.waiter_laws.specs.Waiters.{Waited, waited_same, finish_waited}
 use Rattle.reached_laws.specs.Wires.{Wires}

@@ -16,7 +16,7 @@ use Rattle.definitions.specs.Run
 use Rattle.definitions.specs.Run.{with_items, run_slice}
 use Rattle.good_laws.specs.Good.{rest}
 use Rattle.slice_laws.specs.Loop.{Lasts}
-use Rattle.fuel_laws.specs.Lasts.{fuel_lasts}
+use Rattle.fuel_laws.proofs.Lasts.{fuel_lasts}
 use Rattle.reached_laws.specs.Wires.{Wires, wires_sound}
 use Rattle.words.specs.Left.{Left}
 use Rattle.tried.specs.declared.Tried.{Tried}
@@ -27,7 +27,8 @@ use Rattle.run_slice.specs.declared.Ran.{Ran}
 use Rattle.run_slice.specs.declared.Ran.TheVariants.{Rested}
 use Rattle.run_slice.specs.declared.Ran.TheVariants.{Refused as Ran-as-Refused}
 use Rattle.held_names.specs.Named.{Named}
-use Rattle.rule_means.specs.Built.{Built, rule_sets_built}
+use Rattle.rule_means.specs.Built.{Built}
+use Rattle.rule_means.proofs.Built.{rule_sets_built}
 use Rattle.run_means.specs.Run.{Ends, Most, Turns, slice_means}
 use Rattle.run_means.specs.Turn.{Visits, Visiting, turn_tells}
 use Rattle.acts_means.specs.Holds.{free_path_of, Holds}

@@ -15,7 +15,8 @@ use Rattle.definitions.specs.Run.{spent}
 use Rattle.join_laws.specs.Ports.{same_port_lem}
 use Rattle.rule_laws.specs.Places.{follow_across}
 use Rattle.engine_laws.specs.Frame.{Outline, body, frame, still_frame, steps_kept}
-use Rattle.engine_laws.specs.Turns.{Counts, attempts_count}
+use Rattle.engine_laws.specs.Turns.{Counts}
+use Rattle.engine_laws.proofs.Turns.{attempts_count}
 use Rattle.good_laws.specs.Owners.{owners, net_of}
 use Rattle.good_laws.specs.Good.{Good, bump, rest}
 use Rattle.good_laws.specs.Turn.{is_some_lem}

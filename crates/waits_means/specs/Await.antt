@@ -37,7 +37,7 @@ use Rattle.waits_means.specs.Append.{Appended, appended, chained, pointer_at, po
 use Rattle.waits_means.specs.Slots.{slot_net}
 
 -- the last place of a chain is below its bound
-last_below : {f own : ℕ → ℕ} {b s h : ℕ} {z : ℕ} (l : List ℕ) → Chain f own b s h l z → 0 < b → last l 0 < b
+pub last_below : {f own : ℕ → ℕ} {b s h : ℕ} {z : ℕ} (l : List ℕ) → Chain f own b s h l z → 0 < b → last l 0 < b
 last_below [] c i = i
 last_below {own = own} {b} {s} (d ∷ l) c i = (all_last (Mine own b s) d l c.mine).below
 
@@ -49,7 +49,7 @@ module _ (Named : ℕ → Name → Type 0) (ws : List ℕ) (e : Engine) (m : Mea
   -- what the words are after a place was taken and put at the end of the waits on net k
   module _ (w0 w : List ℕ) (c p j : ℕ) (t : Taken ws w0 e c) (a : Appended w0 w e.pools.nodes e.pools.entries k c v.node (v.net + 1) p j) (pos : 0 < c)
       (apart : p ≢ c) (is : net_word_words w0 (k + 1) 9 ≡ p) where
-    rests : Rest (OutWaits e.pools.nodes e.pools.entries) ws w
+    pub rests : Rest (OutWaits e.pools.nodes e.pools.entries) ws w
     rests =
         let few = m.header.few_nets in
         record {
@@ -58,7 +58,7 @@ module _ (Named : ℕ → Name → Type 0) (ws : List ℕ) (e : Engine) (m : Mea
               (not_there a.link i (λ d. o.1 (omega arith)) (λ z d. o.2 (omega arith))) (λ d. o.1 (omega arith)) ∙ t.rest.same i o.0;
         }
 
-    net_is : NetIs w k (waited v (net_at e k))
+    pub net_is : NetIs w k (waited v (net_at e k))
     unfolding waited with_awaiting net_at
     net_is = let n = net_keep ws w {k = k} (λ i q. let few = m.header.few_nets in rests.same i (omega arith)) (m.nets k h) in record {
       name = n.name;
@@ -69,7 +69,7 @@ module _ (Named : ℕ → Name → Type 0) (ws : List ℕ) (e : Engine) (m : Mea
       pending_is = n.pending_is;
     }
 
-    waits_are : Pool (waits_in w e.pools.nodes e.pools.entries) (length e.nets) (awaiting_of (over_net (waited v) k e).nets) (waits (over_net (waited v) k e))
+    pub waits_are : Pool (waits_in w e.pools.nodes e.pools.entries) (length e.nets) (awaiting_of (over_net (waited v) k e).nets) (waits (over_net (waited v) k e))
     unfolding over_net with_nets waits net_at waited with_awaiting
     waits_are =
         let few = m.header.few_nets in
@@ -92,46 +92,13 @@ module _ (Named : ℕ → Name → Type 0) (ws : List ℕ) (e : Engine) (m : Mea
         go u (no d) = put_other (awaiting_of e.nets) k (awaiting_of e.nets k ++ (v.node, v.net + 1) ∷ []) u d
             ∙ ap (λ (y : Net). map (λ u. (u.node, u.net + 1)) y.awaiting) (sym (get_or-set_other e.nets k u (waited v (net_at e k)) no_net d))
 
-    lists_same : Pool (entries_in w e.pools.nodes) (length e.nets) (items_of (over_net (waited v) k e).nets) (entries (over_net (waited v) k e))
+    pub lists_same : Pool (entries_in w e.pools.nodes) (length e.nets) (items_of (over_net (waited v) k e).nets) (entries (over_net (waited v) k e))
     unfolding over_net with_nets entries net_at waited with_awaiting
     lists_same =
         let few = m.header.few_nets in
         rw (map-set_same (λ (x : Net). length x.list.items) e.nets k (waited v (net_at e k)) no_net refl)
         (pool_lists _ _ (λ u i. sym (read_same (λ (x : Net). x.list.items) e.nets k (waited v (net_at e k)) refl u))
         (lists_keep Named ws w e m (λ i q. rests.same i (omega arith)) (λ i q. rests.same i (omega arith)) (λ i q. rests.same i (omega arith))))
-
-    put_means : Means Named w (over_net (waited v) k e)
-    put_means =
-        let e11 = rests.same 11 (omega arith) in
-        let e13 = a.other 13 (omega arith) (omega arith) (omega arith) (not_there a.link 13 (omega arith) (omega arith)) (omega arith) in
-        let u = m.used.entries in
-        let y = t.used in
-        means_net Named ws w e m (waited v) k h (record { long = rests.long; same = λ i o. rests.same i o.2 }) net_is (omega arith) lists_same waits_are
-
-  -- a place is taken and put at the end of the waits on net k, with node and net
-  pub append_wait_means : waits e < e.pools.waits
-      → Means Named (append_wait (set_wait_word (set_wait_word (take_wait ws).ws (take_wait ws).is 0 v.node) (take_wait ws).is 1 (v.net + 1)) (k + 1) (take_wait ws).is) (over_net (waited v) k e)
-  append_wait_means room =
-      let few = m.header.few_nets in
-      let w0 = (take_wait ws).ws in
-      let c = (take_wait ws).is in
-      let t : Taken ws w0 e c = take_wait_means Named ws e m room in
-      let root = t.loose.pool.nets k h in
-      let p = net_word_words w0 (k + 1) 9 in
-      let j = pointer_at e.pools.nodes e.pools.entries k p in
-      let u = t.used in
-      let long = m.header.long in
-      let l0 = t.rest.long in
-      let pos : 0 < c = t.loose.mine.pos in
-      let b : c < get_or w0 13 0 + 1 = t.loose.mine.below in
-      let most : p < get_or w0 13 0 + 1 = rw root.tail (last_below (t.loose.pool.places k) root.chain (omega arith)) in
-      let apart : p ≢ c = λ d. last_not {s = 257} root.chain (omega arith) (rw (← root.tail, d) t.loose.mine) in
-      let nodes : node_pool w0 ≡ e.pools.nodes = t.rest.same 1 (omega arith) ∙ m.header.nodes in
-      let entries : entry_pool w0 ≡ e.pools.entries = t.rest.same 2 (omega arith) ∙ m.header.entries in
-      rw (append_is w0 e.pools.nodes e.pools.entries k c v.node (v.net + 1) pos (omega arith) nodes entries)
-      (put_means w0 (chained w0 e.pools.nodes e.pools.entries k c v.node (v.net + 1) j) c p j t
-      (appended w0 e.pools.nodes e.pools.entries e.pools.waits k c v.node (v.net + 1) p j (omega arith) pos (omega arith) (omega arith) apart (omega arith)
-      (pointer_link e.pools.nodes e.pools.entries k p)) pos apart refl)
 
 -- what became of the wait on the words is what level Engine says: the words mean its engine, or both have no wait left
 abbrev pub Agrees : (ℕ → Name → Type 0) → Left Awaited → Result Visited → Type 0
@@ -147,52 +114,14 @@ module _ (Named : ℕ → Name → Type 0) (ws : List ℕ) (e : Engine) (m : Mea
 
   module _ (there : filled (graph_of e) n ≡ true) (own : (at (graph_of e) n).net < length e.nets) (small : (net_at e (at (graph_of e) n).net).pending < 4294967295)
       (above : (net_at e k).pending ≢ 0) where
-    v : Wait
+    unfoldable pub v : Wait
     v = record { node = n; net = (at (graph_of e) n).net }
 
-    above_words : net_word_words ws (k + 1) 7 ≢ 0
+    pub above_words : net_word_words ws (k + 1) 7 ≢ 0
     unfolding net_at
     above_words z = above (sym (m.nets k h).pending_is ∙ z)
 
-    full : e.pools.waits ≤ waits e → (await_net_words ws (k + 1) n).is ≡ Full
+    pub full : e.pools.waits ≤ waits e → (await_net_words ws (k + 1) n).is ≡ Full
     full f =
         let t = take_wait_none Named ws e m f in
         ap (λ (l : Left Awaited). l.is) (sym (await_full ws (take_wait ws).ws (k + 1) n (net_word_words ws (k + 1) 7) (take_wait ws).is refl above_words refl refl t.0))
-
-    one_more : waits e < e.pools.waits → ((await_net_words ws (k + 1) n).is ≡ Waiting) × Means Named (await_net_words ws (k + 1) n).ws (State.more (at (graph_of e) n).net (over_net (waited v) k e))
-    unfolding v waited with_awaiting
-    one_more room =
-        let few = m.header.few_nets in
-        let w0 = (take_wait ws).ws in
-        let c = (take_wait ws).is in
-        let u = (at (graph_of e) n).net in
-        let t : Taken ws w0 e c = take_wait_means Named ws e m room in
-        let pos : 0 < c = t.loose.mine.pos in
-        let net : node_word w0 n 0 ≡ u + 1 = t.rest.same (5184 + 32 * n + 0) (omega arith) ∙ slot_net Named ws e.pools.nodes (graph_of e) m.nodes n there in
-        let w1 = set_wait_word w0 c 0 n in
-        let w2 = set_wait_word w1 c 1 (u + 1) in
-        let w3 = append_wait w2 (k + 1) c in
-        let e1 = over_net (waited v) k e in
-        let m1 : Means Named w3 e1 = append_wait_means Named ws e m k v h room in
-        let same : (net_at e1 u).pending ≡ (net_at e u).pending = part_at (λ y. y.pending) e e1 (over_part (λ y. y.pending) (waited v) k e (λ y. refl)) u in
-        let m2 : Means Named (Graph.more w3 (u + 1)) (State.more u e1) = more_means Named w3 e1 m1 u (rw (over_length (waited v) k e) own) (omega arith) in
-        let is : ◌≡◌ {A = Left Awaited} (record { is = Waiting; ws = Graph.more w3 (u + 1) }) (await_net_words ws (k + 1) n)
-        = await_waiting ws w0 w1 w2 w3 (Graph.more w3 (u + 1)) (k + 1) n (net_word_words ws (k + 1) 7) c (u + 1) refl above_words refl refl (omega arith) (sym net) refl refl refl refl in
-        subst (λ (l : Left Awaited). (l.is ≡ Waiting) × Means Named l.ws (State.more u e1)) is (refl, m2)
-
-    -- node n waits on net k, which is above 0
-    pub await_net_means : Agrees Named (await_net_words ws (k + 1) n) (await_net k n e)
-    unfolding await_net v waited
-    await_net_means = go (ltb (waits e) e.pools.waits) refl
-      where
-        go : (t : Bool) → ltb (waits e) e.pools.waits ≡ t → Agrees Named (await_net_words ws (k + 1) n) (need t 11 (ok (passed (State.more (at (graph_of e) n).net (over_net (waited v) k e)))))
-        go true d = one_more (ltb-true (waits e) e.pools.waits d)
-        go false d = (full (ltb-false (waits e) e.pools.waits d), refl)
-
--- where the books agree, all that is asked of the node is that it is there
-pub await_net_good : (Named : ℕ → Name → Type 0) (ws : List ℕ) (e : Engine) → Means Named ws e → (x : ℕ → ℕ) → Good x e → (k n : ℕ) → k < length e.nets
-    → filled (graph_of e) n ≡ true → x (at (graph_of e) n).net ≤ 4294900000 → (net_at e k).pending ≢ 0 → Agrees Named (await_net_words ws (k + 1) n) (await_net k n e)
-await_net_good Named ws e m x g k n h there few above =
-    let i = net_inside_lem Named ws e m x g n there in
-    let p = pending_room Named ws e m x g (at (graph_of e) n).net i in
-    await_net_means Named ws e m k n h there i (omega arith) above

@@ -1,0 +1,4 @@
+pub mod AnswersLaws
+pub mod Settled
+pub mod Sound
+pub mod Turn

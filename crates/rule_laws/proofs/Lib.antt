@@ -1,0 +1,5 @@
+pub mod Annihilate
+pub mod Columns
+pub mod Commute
+pub mod Erase
+pub mod Graft
