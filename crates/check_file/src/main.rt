@@ -4,6 +4,7 @@
 #![tactic(auto)]
 
 use net_check::Checked;
+use std::array;
 use std::io::{self, Read};
 
 const LARGEST_FILE: usize = 524288;
@@ -38,7 +39,7 @@ fn has_more(from: &mut impl Read) -> io::Result<bool> {
 
 fn main(rt: HostRuntime) -> io::Result<()> {
     let mut stdin = rt.stdin();
-    let mut file = [0u8; LARGEST_FILE];
+    let mut file: [u8; LARGEST_FILE] = array::repeat(0);
     let n = input::read_full(&mut stdin, &mut file)?;
     if n == LARGEST_FILE && has_more(&mut stdin)? {
         return print_refused(&rt, 2);

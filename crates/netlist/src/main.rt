@@ -6,6 +6,7 @@ ghost use Rattle.netlist.specs.Said.{listed, said};
 
 use lent::Answer;
 use put::Put;
+use std::array;
 use std::io::{self, Read};
 
 const NODES: u32 = 256;
@@ -45,9 +46,9 @@ fn say(answer: Answer, res: &[u8], text: &mut [u8]) -> Put
 }
 
 fn optimized(file: &[u8], text: &mut [u8]) -> Put {
-    let mut words = [0u32; WORKSPACE];
-    let mut copy = [0u8; LARGEST_FILE];
-    let mut result = [0u8; LARGEST_RESULT];
+    let mut words: [u32; WORKSPACE] = array::repeat(0);
+    let mut copy: [u8; LARGEST_FILE] = array::repeat(0);
+    let mut result: [u8; LARGEST_RESULT] = array::repeat(0);
     let answer = ivy::optimize(
         NODES,
         ENTRIES,
@@ -84,8 +85,8 @@ fn has_more(from: &mut impl Read) -> io::Result<bool> {
 
 fn main(rt: HostRuntime) -> io::Result<()> {
     let mut stdin = rt.stdin();
-    let mut file = [0u8; LARGEST_FILE];
-    let mut text = [0u8; LARGEST_TEXT];
+    let mut file: [u8; LARGEST_FILE] = array::repeat(0);
+    let mut text: [u8; LARGEST_TEXT] = array::repeat(0);
     let n = input::read_full(&mut stdin, &mut file)?;
     if n == LARGEST_FILE && has_more(&mut stdin)? {
         let put = listing::refused(2, &mut text);

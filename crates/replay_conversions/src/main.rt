@@ -9,6 +9,7 @@ mod item;
 
 use convert_frame::Converted;
 use item::{Item, entries_of, said};
+use std::array;
 use std::io::{self, Read};
 
 // A list is read no further than this.
@@ -206,10 +207,10 @@ fn replay_all(
 }
 
 fn main(rt: HostRuntime) -> io::Result<()> {
-    let mut file = [0u8; 65536];
-    let mut expected = [0u8; 65536];
-    let mut scratch = [0u32; 262144];
-    let mut out = [0u8; 65536];
+    let mut file: [u8; 65536] = array::repeat(0);
+    let mut expected: [u8; 65536] = array::repeat(0);
+    let mut scratch: [u32; 262144] = array::repeat(0);
+    let mut out: [u8; 65536] = array::repeat(0);
     let tally = replay_all(
         &rt,
         &mut rt.stdin(),

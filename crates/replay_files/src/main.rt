@@ -10,6 +10,7 @@ ghost use Rattle.replay_files.specs.Tallied.{after};
 ghost use Rattle.replay_files.specs.Tallied.{compared as Tallied·compared};
 
 use net_check::Checked;
+use std::array;
 use std::io::{self, Read};
 
 const TREE_CALL: u8 = 65;
@@ -173,7 +174,7 @@ fn replay_all(rt: &impl Print, from: &mut impl Read, buf: &mut [u8]) -> io::Resu
 }
 
 fn main(rt: HostRuntime) -> io::Result<()> {
-    let mut buf = [0u8; 524288];
+    let mut buf: [u8; 524288] = array::repeat(0);
     let tally = replay_all(&rt, &mut rt.stdin(), &mut buf)?;
     println!(rt; "{} files, {} different", tally.files, tally.different)
 }

@@ -13,6 +13,7 @@ ghost use Rattle.std.specs.Prelude.{◌≤◌};
 
 use item::{Item, said};
 use run::replay_item;
+use std::array;
 use std::io::{self, Read};
 
 // A list is read no further than this.
@@ -205,13 +206,13 @@ fn replay_all(
 }
 
 fn main(rt: HostRuntime) -> io::Result<()> {
-    let mut words = [0u32; 262144];
-    let mut other = [0u32; 262144];
-    let mut bytes = [0u8; 65536];
-    let mut held = [0u8; 65536];
-    let mut file = [0u8; 65536];
-    let mut expected = [0u8; 131072];
-    let mut out = [0u8; 131072];
+    let mut words: [u32; 262144] = array::repeat(0);
+    let mut other: [u32; 262144] = array::repeat(0);
+    let mut bytes: [u8; 65536] = array::repeat(0);
+    let mut held: [u8; 65536] = array::repeat(0);
+    let mut file: [u8; 65536] = array::repeat(0);
+    let mut expected: [u8; 131072] = array::repeat(0);
+    let mut out: [u8; 131072] = array::repeat(0);
     let tally = replay_all(
         &rt,
         &mut rt.stdin(),
