@@ -1,6 +1,6 @@
 """The calls of include/ivy.h, by ctypes, on lent memory that is looked at before and after each call.
 
-Each call is held against what document 01 says of everything that was lent: what a refusal leaves, what a success leaves,
+Each call is held against what include/ivy.h says of everything that was lent: what a refusal leaves, what a success leaves,
 that no output is written on refusal, and that nothing past the used part changes."""
 
 import ctypes

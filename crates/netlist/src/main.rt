@@ -1,4 +1,4 @@
-// Optimises the flat net file on standard input and prints what came of it, or by which number it is refused. Document 01, "Checked examples".
+// Optimises the flat net file on standard input and prints what came of it, or by which number it is refused.
 #![tactic(auto)]
 
 ghost use Rattle.put.specs.Written.{Written};
@@ -26,6 +26,7 @@ const LARGEST_RESULT: usize = 24576;
 const LARGEST_TEXT: usize = 131072;
 
 // The text of the result, the first n bytes.
+#[tactic(auto, using(crate::specs::Said::listed_all), unfolding(crate::specs::Said::listed))]
 fn listed(res: &[u8], n: usize, text: &mut [u8]) -> Put
     ensures { Written (listed res.now n) 0 text.old text.new result }
 {
@@ -36,6 +37,7 @@ fn listed(res: &[u8], n: usize, text: &mut [u8]) -> Put
 }
 
 // What is printed of an answer.
+#[tactic(auto, using(crate::specs::Said::said_done, crate::specs::Said::said_refused))]
 fn say(answer: Answer, res: &[u8], text: &mut [u8]) -> Put
     ensures { Written (said answer res.now) 0 text.old text.new result }
 {
