@@ -14,7 +14,7 @@ use Rattle.definitions.specs.Calls.{Held, Workspace, unchanged, zeros, Outcome, 
 use Rattle.lent.specs.Lent.{zero_words, zero_bytes}
 use Rattle.lent.specs.declared.Pools as Lent
 use Rattle.lent.specs.declared.Answer.TheVariants.{Done, Refused}
-use Rattle.finishing.specs.Finishing.{Given, result, delivered, finish_image, finish}
+use Rattle.finishing.specs.Finishing.{Given, run_result, delivered, finish_image, finish}
 use Rattle.finishing.specs.Ways.{delivered_done, delivered_refused, image_delivered, finish_room}
 use Rattle.finish_means.specs.Delivered.{Delivers}
 use Rattle.start_means.specs.Start.{pools_of}
@@ -45,14 +45,14 @@ module _ (q : Lent.Pools) (ws bs : List ℕ) (h : Held) (c : Carries q ws bs h) 
       go (deliver (length out) (Finish.result h.file h.engine))
       (run_delivers c.s c.are h.file c.reads (pools_of q) c.fit ws h.engine c.holds c.reached out size)
     where
-      go : (r : Result (List ℕ)) → Delivers ws out (result ws c.s out) r → Finishes q ws bs out (delivered q ws bs out) (Ends h.file r)
+      go : (r : Result (List ℕ)) → Delivers ws out (run_result ws c.s out) r → Finishes q ws bs out (delivered q ws bs out) (Ends h.file r)
       go (refuse n) t =
-          let d = result ws c.s out in
+          let d = run_result ws c.s out in
           let y : ◌≡◌ {A = Given} (record { is = Refused n; ws = d.ws; bs = bs; out = d.out }) (delivered q ws bs out)
           = delivered_refused q n (length c.s) ws d.ws bs c.s out d.out d.is (sym (carries_length q ws bs h c)) (sym c.kept) refl refl refl t.0 in
           subst (λ (x : Given). Finishes q ws bs out x (refuse n, unchanged)) y (refl, t.1, (t.2, refl))
       go (ok b) t =
-          let d = result ws c.s out in
+          let d = run_result ws c.s out in
           let y : ◌≡◌ {A = Given} (record { is = Done (length b); ws = zero_words q d.ws; bs = zero_bytes (length c.s) bs; out = d.out }) (delivered q ws bs out)
           = delivered_done q (length b) (length c.s) ws d.ws _ bs _ c.s out d.out d.is (sym (carries_length q ws bs h c)) (sym c.kept) refl refl refl t.0 refl refl in
           let z : zero_bytes (length c.s) bs ≡ zero_bytes (length (write flat h.file)) bs = ap (λ (x : List ℕ). zero_bytes (length x) bs) (sym (carries_bytes q ws bs h c)) in

@@ -42,7 +42,7 @@ use Rattle.measure.specs.declared.Size.{Size}
 use Rattle.finish.specs.Finish.{write}
 use Rattle.lent.specs.declared.Answer.{Answer}
 use Rattle.lent.specs.declared.Answer.TheVariants.{Done, Refused}
-use Rattle.finishing.specs.Finishing.{fits, result}
+use Rattle.finishing.specs.Finishing.{fits, run_result}
 use Rattle.measure_means.specs.Sums.{total}
 use Rattle.measure_means.specs.Slots.{Counts, net_total, net_weight}
 use Rattle.measure_means.specs.Nets.{Follows, counted_nodes, nets_nodes_lem}
@@ -141,15 +141,15 @@ module _ (Named : ℕ → Name → Type 0) (ws : List ℕ) (e : Engine) (m : Mea
         let n : (measure ws s).nodes ≡ sum (map (λ (t : FlatNet). length t.nodes) (Finish.result f e).nets) = omega arith in
         rw n (sym (pick_false _ _ _ h refl))
 
-    refuses : fits (measure ws s) (length out) ≡ false → Delivers ws out (result ws s out) (refuse 15)
-    unfolding result written
+    refuses : fits (measure ws s) (length out) ≡ false → Delivers ws out (run_result ws s out) (refuse 15)
+    unfolding run_result written
     refuses h =
-        let r : record { is = Refused 15; ws = ws; out = out } ≡ result ws s out = pick_false _ _ _ h refl in
+        let r : record { is = Refused 15; ws = ws; out = out } ≡ run_result ws s out = pick_false _ _ _ h refl in
         (ap (λ (x : Wrote Answer). x.is) (sym r), ap (λ (x : Wrote Answer). x.out) (sym r), ap (λ (x : Wrote Answer). x.ws) (sym r))
 
     delivers : nodes_fit flat.nodes (Finish.result f e).nets ≡ true → length (Checks.write flat (Finish.result f e)) ≤ length out
-        → Delivers ws out (result ws s out) (ok (Checks.write flat (Finish.result f e)))
-    unfolding result written
+        → Delivers ws out (run_result ws s out) (ok (Checks.write flat (Finish.result f e)))
+    unfolding run_result written
     delivers h room =
         let bs = Checks.write flat (Finish.result f e) in
         let small = bytes_few h in
@@ -158,17 +158,17 @@ module _ (Named : ℕ → Name → Type 0) (ws : List ℕ) (e : Engine) (m : Mea
         = (measured_exactly Named ws s is f ok_f e m follows (image_marked p f e image ws s is places Named m) (image_lists p f e image) nodes_few (omega arith)).1 in
         let w = write ws s out len in
         let yes : fits (measure ws s) (length out) ≡ true = fits_is true h ∙ le-leb (length bs) (length out) room in
-        let r : record { is = Done (len % 4294967296); ws = w.ws; out = w.out } ≡ result ws s out = pick_true _ _ _ yes refl in
+        let r : record { is = Done (len % 4294967296); ws = w.ws; out = w.out } ≡ run_result ws s out = pick_true _ _ _ yes refl in
         let d = write_is Named ws e m image.wired.well image.wired.ported (free_number f) s is f ok_f (image_writable p f e image ws s is places) named follows out len x (omega arith) size in
         let count : len % 4294967296 ≡ length bs = omega arith in
         (ap (λ (x : Wrote Answer). x.is) (sym r) ∙ ap Done count, ap (λ (x : Wrote Answer). x.out) (sym r) ∙ d.out_is ∙ store_first bs out room)
 
-    pub delivered_is : Delivers ws out (result ws s out) (deliver (length out) (Finish.result f e))
+    pub delivered_is : Delivers ws out (run_result ws s out) (deliver (length out) (Finish.result f e))
     unfolding deliver
     delivered_is = go (nodes_fit flat.nodes (Finish.result f e).nets) (leb (length (Checks.write flat (Finish.result f e))) (length out)) refl refl
       where
         go : (t u : Bool) → nodes_fit flat.nodes (Finish.result f e).nets ≡ t → leb (length (Checks.write flat (Finish.result f e))) (length out) ≡ u
-            → Delivers ws out (result ws s out) (need (t && u) 15 (ok (Checks.write flat (Finish.result f e))))
+            → Delivers ws out (run_result ws s out) (need (t && u) 15 (ok (Checks.write flat (Finish.result f e))))
         go true true h i = delivers h (leb-true (length (Checks.write flat (Finish.result f e))) (length out) i)
         go true false h i = refuses (fits_is true h ∙ i)
         go false u h i = refuses (fits_is false h)

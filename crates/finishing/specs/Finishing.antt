@@ -37,8 +37,8 @@ unfoldable pub fits : Size → ℕ → Bool
 fits size room = pick (leb size.nodes 4096) (leb size.bytes room) false
 
 -- "a result leaves the output bytes past its end unchanged", a refusal all of them
-unfoldable pub result : List ℕ → List ℕ → List ℕ → Wrote Answer
-result ws file out =
+unfoldable pub run_result : List ℕ → List ℕ → List ℕ → Wrote Answer
+run_result ws file out =
     let size = measure ws file in
     let w = write ws file out size.bytes in
     pick (fits size (length out)) (record { is = Done (size.bytes % 4294967296); ws = w.ws; out = w.out })
@@ -48,7 +48,7 @@ result ws file out =
 unfoldable pub delivered : Pools → List ℕ → List ℕ → List ℕ → Given
 delivered p ws bs out =
     let k = held_length ws bs in
-    let r = result ws (take k bs) out in
+    let r = run_result ws (take k bs) out in
     on_answer r.is (λ n. record { is = Done n; ws = zero_words p r.ws; bs = zero_bytes k bs; out = r.out })
     (λ n. record { is = Refused n; ws = r.ws; bs = bs; out = r.out })
 

@@ -12,27 +12,27 @@ use Rattle.lent.specs.Lent.{room, held_length, zero_words, zero_bytes}
 use Rattle.lent.specs.declared.Pools.{Pools}
 use Rattle.lent.specs.declared.Answer.{Answer}
 use Rattle.lent.specs.declared.Answer.TheVariants.{Done, Refused}
-use Rattle.finishing.specs.Finishing.{Given, given, on_answer, fits, result, delivered, finish_image, finish}
+use Rattle.finishing.specs.Finishing.{Given, given, on_answer, fits, run_result, delivered, finish_image, finish}
 
 pub result_written : (ws w file out o : List ℕ) (size : Size) (t : Bool) → size ≡ measure ws file → t ≡ fits size (length out) → t ≡ true
     → w ≡ (write ws file out size.bytes).ws → o ≡ (write ws file out size.bytes).out
-    → record { is = Done (size.bytes % 4294967296); ws = w; out = o } ≡ result ws file out
-unfolding result
+    → record { is = Done (size.bytes % 4294967296); ws = w; out = o } ≡ run_result ws file out
+unfolding run_result
 result_written ws w file out o size t es et h ew eo = rw (← es) (pick_true _ _ _ (rw (← et) h) (rw (ew, eo)))
 
 pub result_refused : (ws file out : List ℕ) (size : Size) (t : Bool) → size ≡ measure ws file → t ≡ fits size (length out) → t ≡ false
-    → record { is = Refused 15; ws = ws; out = out } ≡ result ws file out
-unfolding result
+    → record { is = Refused 15; ws = ws; out = out } ≡ run_result ws file out
+unfolding run_result
 result_refused ws file out size t es et h = rw (← es) (pick_false _ _ _ (rw (← et) h) refl)
 
-pub delivered_done : (p : Pools) (n k : ℕ) (ws w x bs b file out o : List ℕ) (a : Answer) → k ≡ held_length ws bs → file ≡ take k bs → a ≡ (result ws file out).is
-    → w ≡ (result ws file out).ws → o ≡ (result ws file out).out → a ≡ Done n → x ≡ zero_words p w → b ≡ zero_bytes k bs
+pub delivered_done : (p : Pools) (n k : ℕ) (ws w x bs b file out o : List ℕ) (a : Answer) → k ≡ held_length ws bs → file ≡ take k bs → a ≡ (run_result ws file out).is
+    → w ≡ (run_result ws file out).ws → o ≡ (run_result ws file out).out → a ≡ Done n → x ≡ zero_words p w → b ≡ zero_bytes k bs
     → record { is = Done n; ws = x; bs = b; out = o } ≡ delivered p ws bs out
 unfolding delivered on_answer
 delivered_done p n k ws w x bs b file out o a ek ef ea ew eo e ex eb = rw (← ek, ← ef, ← ea, e, ex, eb, ew, eo)
 
-pub delivered_refused : (p : Pools) (n k : ℕ) (ws w bs file out o : List ℕ) (a : Answer) → k ≡ held_length ws bs → file ≡ take k bs → a ≡ (result ws file out).is
-    → w ≡ (result ws file out).ws → o ≡ (result ws file out).out → a ≡ Refused n → record { is = Refused n; ws = w; bs = bs; out = o } ≡ delivered p ws bs out
+pub delivered_refused : (p : Pools) (n k : ℕ) (ws w bs file out o : List ℕ) (a : Answer) → k ≡ held_length ws bs → file ≡ take k bs → a ≡ (run_result ws file out).is
+    → w ≡ (run_result ws file out).ws → o ≡ (run_result ws file out).out → a ≡ Refused n → record { is = Refused n; ws = w; bs = bs; out = o } ≡ delivered p ws bs out
 unfolding delivered on_answer
 delivered_refused p n k ws w bs file out o a ek ef ea ew eo e = rw (← ek, ← ef, ← ea, e, ew, eo)
 

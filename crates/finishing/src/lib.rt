@@ -3,14 +3,14 @@
 
 ghost use Rattle.std.specs.Prelude.{◌%◌, Bool, ◌≡◌};
 ghost use Rattle.measure.specs.declared.Size.{Size};
-ghost use Rattle.finishing.specs.Finishing.{fits, result, delivered, finish_image, finish};
+ghost use Rattle.finishing.specs.Finishing.{fits, run_result, delivered, finish_image, finish};
 
 use lent::{Answer, Pools};
 use measure::Size;
 
 // 15: "output shorter than the result, or over 4,096 nodes in it".
 fn fits(size: Size, room: usize) -> bool
-    ensures* { λ r. ⌜ r ≡ fits size room ⌝ }
+    ensures { result ≡ fits size room }
 {
     if size.nodes <= 4096 {
         return size.bytes <= room as u64;
@@ -20,7 +20,7 @@ fn fits(size: Size, room: usize) -> bool
 
 // The result of the run that these words hold.
 pub fn result(ws: &mut [u32], file: &[u8], out: &mut [u8]) -> Answer
-    ensures* { λ r. ⌜ (r ≡ (result ws.old file.now out.old).is) × (ws.new ≡ (result ws.old file.now out.old).ws) × (out.new ≡ (result ws.old file.now out.old).out) ⌝ }
+    ensures { (result ≡ (run_result ws.old file.now out.old).is) × (ws.new ≡ (run_result ws.old file.now out.old).ws) × (out.new ≡ (run_result ws.old file.now out.old).out) }
 {
     let size = measure::measure(ws, file);
     let n = size.bytes;
@@ -33,7 +33,7 @@ pub fn result(ws: &mut [u32], file: &[u8], out: &mut [u8]) -> Answer
 
 // An image: a result leaves zeros, 15 leaves it as it is.
 fn delivered(p: Pools, ws: &mut [u32], bs: &mut [u8], out: &mut [u8]) -> Answer
-    ensures* { λ r. ⌜ (r ≡ (delivered p ws.old bs.old out.old).is) × (ws.new ≡ (delivered p ws.old bs.old out.old).ws) × (bs.new ≡ (delivered p ws.old bs.old out.old).bs) × (out.new ≡ (delivered p ws.old bs.old out.old).out) ⌝ }
+    ensures { (result ≡ (delivered p ws.old bs.old out.old).is) × (ws.new ≡ (delivered p ws.old bs.old out.old).ws) × (bs.new ≡ (delivered p ws.old bs.old out.old).bs) × (out.new ≡ (delivered p ws.old bs.old out.old).out) }
 {
     let k = lent::held_length(ws, bs);
     let answer = result(ws, &bs[..k], out);
@@ -48,7 +48,7 @@ fn delivered(p: Pools, ws: &mut [u32], bs: &mut [u8], out: &mut [u8]) -> Answer
 
 // Words that are long enough.
 fn finish_image(p: Pools, ws: &mut [u32], bs: &mut [u8], out: &mut [u8]) -> Answer
-    ensures* { λ r. ⌜ (r ≡ (finish_image p ws.old bs.old out.old).is) × (ws.new ≡ (finish_image p ws.old bs.old out.old).ws) × (bs.new ≡ (finish_image p ws.old bs.old out.old).bs) × (out.new ≡ (finish_image p ws.old bs.old out.old).out) ⌝ }
+    ensures { (result ≡ (finish_image p ws.old bs.old out.old).is) × (ws.new ≡ (finish_image p ws.old bs.old out.old).ws) × (bs.new ≡ (finish_image p ws.old bs.old out.old).bs) × (out.new ≡ (finish_image p ws.old bs.old out.old).out) }
 {
     if image::resumable(p.nodes, p.entries, p.waits, ws, bs) {
         return delivered(p, ws, bs, out);
@@ -57,7 +57,7 @@ fn finish_image(p: Pools, ws: &mut [u32], bs: &mut [u8], out: &mut [u8]) -> Answ
 }
 
 pub fn finish(p: Pools, ws: &mut [u32], bs: &mut [u8], out: &mut [u8]) -> Answer
-    ensures* { λ r. ⌜ (r ≡ (finish p ws.old bs.old out.old).is) × (ws.new ≡ (finish p ws.old bs.old out.old).ws) × (bs.new ≡ (finish p ws.old bs.old out.old).bs) × (out.new ≡ (finish p ws.old bs.old out.old).out) ⌝ }
+    ensures { (result ≡ (finish p ws.old bs.old out.old).is) × (ws.new ≡ (finish p ws.old bs.old out.old).ws) × (bs.new ≡ (finish p ws.old bs.old out.old).bs) × (out.new ≡ (finish p ws.old bs.old out.old).out) }
 {
     if lent::room(p, ws) {
         return finish_image(p, ws, bs, out);

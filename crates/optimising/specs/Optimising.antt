@@ -11,13 +11,13 @@ use Rattle.lent.specs.declared.Pools.{Pools}
 use Rattle.lent.specs.declared.Answer.{Answer}
 use Rattle.lent.specs.declared.Answer.TheVariants.{Refused}
 use Rattle.begin.specs.Begin.{loaded, on_checked}
-use Rattle.finishing.specs.Finishing.{Given, result}
+use Rattle.finishing.specs.Finishing.{Given, run_result}
 
 -- a loaded file: a slice of none, then finish
 unfoldable pub optimize_run : List ℕ → List ℕ → List ℕ → Wrote Answer
 optimize_run ws file out =
     let r = run_slice ws file 4294967295 in
-    on_ran r.is (λ s. result r.ws file out) (λ n. record { is = Refused n; ws = r.ws; out = out })
+    on_ran r.is (λ s. run_result r.ws file out) (λ n. record { is = Refused n; ws = r.ws; out = out })
 
 -- a file that is accepted: 9 and 10 as its nets are loaded
 unfoldable pub optimize_loaded : Pools → List ℕ → List ℕ → List ℕ → Wrote Answer

@@ -17,13 +17,13 @@ use Rattle.lent.specs.declared.Pools.{Pools}
 use Rattle.lent.specs.declared.Answer.{Answer}
 use Rattle.lent.specs.declared.Answer.TheVariants.{Refused}
 use Rattle.begin.specs.Begin.{loaded, on_checked}
-use Rattle.finishing.specs.Finishing.{Given, given, result}
+use Rattle.finishing.specs.Finishing.{Given, given, run_result}
 use Rattle.optimising.specs.Optimising.{optimize_run, optimize_loaded, optimize_file, optimize_checked, optimize}
 
 pub run_finished : (ws w x file out o : List ℕ) (s : ℕ) (r : Ran) (a : Answer) → r ≡ (run_slice ws file 4294967295).is → w ≡ (run_slice ws file 4294967295).ws → r ≡ Rested s
-    → a ≡ (result w file out).is → x ≡ (result w file out).ws → o ≡ (result w file out).out → record { is = a; ws = x; out = o } ≡ optimize_run ws file out
+    → a ≡ (run_result w file out).is → x ≡ (run_result w file out).ws → o ≡ (run_result w file out).out → record { is = a; ws = x; out = o } ≡ optimize_run ws file out
 unfolding optimize_run on_ran
-run_finished ws w x file out o s r a er ew e ea ex eo = rw (← er, e, ← ew) (whole (result w file out) ea ex eo)
+run_finished ws w x file out o s r a er ew e ea ex eo = rw (← er, e, ← ew) (whole (run_result w file out) ea ex eo)
 
 pub run_refused : (ws w file out : List ℕ) (s n : ℕ) (r : Ran) → r ≡ (run_slice ws file 4294967295).is → w ≡ (run_slice ws file 4294967295).ws → r ≡ Ran-as-Refused s n
     → record { is = Refused n; ws = w; out = out } ≡ optimize_run ws file out

@@ -38,7 +38,7 @@ use Rattle.held_names.specs.Named.{Stands, Named, named_stands}
 use Rattle.script_means.specs.Tries.{name_read}
 use Rattle.acts_means.specs.Holds.{Holds}
 use Rattle.result_held.specs.Held.{Places}
-use Rattle.finishing.specs.Finishing.{result}
+use Rattle.finishing.specs.Finishing.{run_result}
 use Rattle.finish_means.specs.Delivered.{Delivers, delivered_is}
 
 module _ {A : Type 0} where
@@ -122,5 +122,5 @@ module _ (s : List ℕ) (is : Bytes s) (f : File FlatNet) (accepted : read flat 
   named c = lt_split c 1024 (get_or ws (64 + c) 0) 0 (λ (x : ℕ). x ≡ net_word (get_net e c)) (λ i. h.called c i) (λ i. none_high c i)
 
   -- the same bytes, or 15
-  pub run_delivers : (out : List ℕ) → length out < 18446744073709551616 → Delivers ws out (result ws s out) (deliver (length out) (Finish.result f e))
+  pub run_delivers : (out : List ℕ) → length out < 18446744073709551616 → Delivers ws out (run_result ws s out) (deliver (length out) (Finish.result f e))
   run_delivers out size = delivered_is (Named s f) ws e h.means s is f accepted p fit image places named out size

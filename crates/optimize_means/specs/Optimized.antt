@@ -23,7 +23,7 @@ use Rattle.lent.specs.declared.Pools as Lent
 use Rattle.lent.specs.declared.Answer.{Answer}
 use Rattle.lent.specs.declared.Answer.TheVariants.{Done, Refused}
 use Rattle.begin.specs.Begin.{start, loaded}
-use Rattle.finishing.specs.Finishing.{result}
+use Rattle.finishing.specs.Finishing.{run_result}
 use Rattle.optimising.specs.Optimising.{optimize_run, optimize_loaded}
 use Rattle.optimising.specs.Ways.{run_finished, run_refused, loaded_runs, load_refused}
 use Rattle.acts_means.specs.Holds.{Holds}
@@ -66,7 +66,7 @@ module _ (s : List ℕ) (is : Bytes s) (f : File FlatNet) (accepted : read flat 
             subst (λ (x : Wrote Answer). Gives out x (refuse n)) y (refl, unwritten out n)
         go (ok x) q t =
             let l = Words.slice ws s 4294967295 in
-            let d = result l.ws s out in
+            let d = run_result l.ws s out in
             let y : ◌≡◌ {A = Wrote Answer} (record { is = d.is; ws = d.ws; out = d.out }) (optimize_run ws s out)
             = run_finished ws l.ws d.ws s out d.out x.1 l.is d.is refl refl t.0 refl refl refl in
             subst (λ (z : Wrote Answer). Gives out z (deliver (length out) (Finish.result f x.0))) y

@@ -48,7 +48,7 @@ use Rattle.net_check.specs.Verdict.{verdict}
 use Rattle.net_check.specs.declared.Checked.{Checked}
 use Rattle.net_check.specs.declared.Checked.TheVariants.{Accepted}
 use Rattle.net_check.specs.declared.Checked.TheVariants.{Refused as Checked-as-Refused}
-use Rattle.pruning.specs.Kept.{entries_below, kept_count, kept_net, kept_bytes, result_of, result, accepted}
+use Rattle.pruning.specs.Kept.{entries_below, kept_count, kept_net, kept_bytes, result_of, kept_file, accepted}
 
 -- ---- the bytes of a net
 
@@ -171,8 +171,8 @@ module _ (s : List ℕ) (bytes : Bytes s) (f : File FlatNet) (e : read flat s �
         rw (w, v) (λ k. head_bytes s (net_count_at s) 1 (count_is k) l ++ bytes_are k)
 
     -- the result is what is written of the file with the nets that are kept
-    result_is : result s marks ≡ write flat (with_nets f kept)
-    unfolding result counted
+    result_is : kept_file s marks ≡ write flat (with_nets f kept)
+    unfolding kept_file counted
     result_is =
         let bs = concat_map write_flat_net kept in
         let l : length (result_of s marks 0) ≡ length (framed s 1 (be 2 (length kept) ++ bs)) = ap length (of_is 0) ∙ head_length s 1 (length kept) bs 0 in

@@ -42,12 +42,12 @@ module _ (s : List ℕ) (marks : List Bool) where
       let q = within s (net_count_at s) in
       head_bytes s q 1 (kept_count (on s q 2) (be16 s q)) n ++ kept_bytes (on s q 2) (be16 s q)
 
-  unfoldable pub result : List ℕ
-  result = result_of (length (result_of 0))
+  unfoldable pub kept_file : List ℕ
+  kept_file = result_of (length (result_of 0))
 
 -- 5, then 15; without entries the file as it is
 unfoldable pub accepted : List ℕ → List ℕ → ℕ → Result (List ℕ)
 accepted s entries room =
     pick (entries_below entries (be16 s (name_count_at s)))
-    (if_eq (length entries) 0 (fitted room s) (fitted room (result s (reached s entries (replicate 1024 false)))))
+    (if_eq (length entries) 0 (fitted room s) (fitted room (kept_file s (reached s entries (replicate 1024 false)))))
     (refuse 5)

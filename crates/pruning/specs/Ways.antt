@@ -24,7 +24,7 @@ use Rattle.convert_frame.specs.Head.{head_bytes}
 use Rattle.convert_frame.specs.Called.{answered}
 use Rattle.convert_frame.specs.declared.Converted.{Converted}
 use Rattle.convert_frame.specs.declared.Converted.TheVariants.{Written, Refused}
-use Rattle.pruning.specs.Kept.{entries_below, kept_count, kept_net, kept_bytes, result_of, result, accepted}
+use Rattle.pruning.specs.Kept.{entries_below, kept_count, kept_net, kept_bytes, result_of, kept_file, accepted}
 
 -- ---- the entries
 
@@ -131,8 +131,8 @@ module _ (s : List ℕ) (marks : List Bool) where
       let b = kept_bytes s marks (on s q 2) (be16 s q) in
       length-append (head_bytes s q 1 c l) b ∙ ap (λ n. n + length b) (head_long s q 1 c l 0) ∙ sym (length-append (head_bytes s q 1 c 0) b)
 
-  result_long : length (result s marks) ≡ length (result_of s marks 0)
-  unfolding result
+  result_long : length (kept_file s marks) ≡ length (result_of s marks 0)
+  unfolding kept_file
   result_long = same_long (length (result_of s marks 0))
 
 module _ (s : List ℕ) (marks : List Bool) (q n f c k : ℕ) (x y out : List ℕ) (eq : q ≡ within s (net_count_at s)) (en : n ≡ be16 s q) (ef : f ≡ on s q 2) (ec : c ≡ kept_count s marks f n)
@@ -141,28 +141,28 @@ module _ (s : List ℕ) (marks : List Bool) (q n f c k : ℕ) (x y out : List �
   unfolding result_of
   is_of l = rw (ec, ef, en, eq)
 
-  told : k ≡ min far (length (result s marks))
-  told = let i = m.is in let e : length (head_bytes s q 1 c 0 ++ kept_bytes s marks (on s q 2) n) ≡ length (result s marks) = ap length (is_of 0) ∙ sym (result_long s marks) in omega arith
+  told : k ≡ min far (length (kept_file s marks))
+  told = let i = m.is in let e : length (head_bytes s q 1 c 0 ++ kept_bytes s marks (on s q 2) n) ≡ length (kept_file s marks) = ap length (is_of 0) ∙ sym (result_long s marks) in omega arith
 
-  pub full_is : length out < k → Refused 15 ≡ answered (fitted (length out) (result s marks))
-  full_is h = (too_long (result s marks) out (let t = told in omega arith)).0
+  pub full_is : length out < k → Refused 15 ≡ answered (fitted (length out) (kept_file s marks))
+  full_is h = (too_long (kept_file s marks) out (let t = told in omega arith)).0
 
-  pub full_left : length out < k → out ≡ written (fitted (length out) (result s marks)) out
-  full_left h = (too_long (result s marks) out (let t = told in omega arith)).1
+  pub full_left : length out < k → out ≡ written (fitted (length out) (kept_file s marks)) out
+  full_left h = (too_long (kept_file s marks) out (let t = told in omega arith)).1
 
   module _ (w : List ℕ) (r : ℕ) (h : k ≤ length out) (l : length out < far) (u : Wrote (head_bytes s q 1 c k ++ kept_bytes s marks (on s q 2) n) 0 out w r) where
-    exact : k ≡ length (result s marks)
+    exact : k ≡ length (kept_file s marks)
     exact = let t = told in omega arith
 
-    whole : Wrote (result s marks) 0 out w r
-    unfolding result
+    whole : Wrote (kept_file s marks) 0 out w r
+    unfolding kept_file
     whole = wrote_as (is_of k ∙ ap (result_of s marks) (exact ∙ result_long s marks)) u
 
-    pub done_is : Written k ≡ answered (fitted (length out) (result s marks))
-    done_is = ap Written exact ∙ (fits (result s marks) out w r (let e = exact in omega arith) whole).0
+    pub done_is : Written k ≡ answered (fitted (length out) (kept_file s marks))
+    done_is = ap Written exact ∙ (fits (kept_file s marks) out w r (let e = exact in omega arith) whole).0
 
-    pub done_left : w ≡ written (fitted (length out) (result s marks)) out
-    done_left = (fits (result s marks) out w r (let e = exact in omega arith) whole).1
+    pub done_left : w ≡ written (fitted (length out) (kept_file s marks)) out
+    done_left = (fits (kept_file s marks) out w r (let e = exact in omega arith) whole).1
 
 module _ (s out : List ℕ) where
   pub nothing_full_is : length out < length s → Refused 15 ≡ answered (fitted (length out) s)
@@ -183,11 +183,11 @@ pub marks_clear : (s es : List ℕ) (z ms : List Bool) → z ≡ replicate 1024 
 marks_clear s es z ms e m = subst (λ (y : List Bool). ms ≡ reached s es y) e m
 
 module _ (s es out w : List ℕ) (z ms : List Bool) (a : Converted) (e : z ≡ replicate 1024 false) (m : ms ≡ reached s es z) where
-  pub reached_is : a ≡ answered (fitted (length out) (result s ms)) → a ≡ answered (fitted (length out) (result s (reached s es (replicate 1024 false))))
-  reached_is h = subst (λ (y : List Bool). a ≡ answered (fitted (length out) (result s y))) (marks_clear s es z ms e m) h
+  pub reached_is : a ≡ answered (fitted (length out) (kept_file s ms)) → a ≡ answered (fitted (length out) (kept_file s (reached s es (replicate 1024 false))))
+  reached_is h = subst (λ (y : List Bool). a ≡ answered (fitted (length out) (kept_file s y))) (marks_clear s es z ms e m) h
 
-  pub reached_left : w ≡ written (fitted (length out) (result s ms)) out → w ≡ written (fitted (length out) (result s (reached s es (replicate 1024 false)))) out
-  reached_left h = subst (λ (y : List Bool). w ≡ written (fitted (length out) (result s y)) out) (marks_clear s es z ms e m) h
+  pub reached_left : w ≡ written (fitted (length out) (kept_file s ms)) out → w ≡ written (fitted (length out) (kept_file s (reached s es (replicate 1024 false)))) out
+  reached_left h = subst (λ (y : List Bool). w ≡ written (fitted (length out) (kept_file s y)) out) (marks_clear s es z ms e m) h
 
 -- ---- an accepted file
 
@@ -199,7 +199,7 @@ module _ (s es out : List ℕ) (n room : ℕ) (t : Bool) (en : n ≡ be16 s (nam
   unfolding accepted
   nothing_said h z = pick_true _ _ _ (tested true h) (eq_yes _ _ _ _ z refl)
 
-  reached_said : t ≡ true → (length es ≡ 0 → ⊥) → fitted room (result s (reached s es (replicate 1024 false))) ≡ accepted s es room
+  reached_said : t ≡ true → (length es ≡ 0 → ⊥) → fitted room (kept_file s (reached s es (replicate 1024 false))) ≡ accepted s es room
   unfolding accepted
   reached_said h z = pick_true _ _ _ (tested true h) (eq_no _ _ _ _ z refl)
 
@@ -213,10 +213,10 @@ module _ (s es out : List ℕ) (n room : ℕ) (t : Bool) (en : n ≡ be16 s (nam
   pub accepted_nothing_left : (w : List ℕ) → t ≡ true → length es ≡ 0 → w ≡ written (fitted room s) out → w ≡ written (accepted s es room) out
   accepted_nothing_left w h z e = e ∙ ap (λ b. written b out) (nothing_said h z)
 
-  pub accepted_reached_is : (a : Converted) → t ≡ true → (length es ≡ 0 → ⊥) → a ≡ answered (fitted room (result s (reached s es (replicate 1024 false)))) → a ≡ answered (accepted s es room)
+  pub accepted_reached_is : (a : Converted) → t ≡ true → (length es ≡ 0 → ⊥) → a ≡ answered (fitted room (kept_file s (reached s es (replicate 1024 false)))) → a ≡ answered (accepted s es room)
   accepted_reached_is a h z e = e ∙ ap answered (reached_said h z)
 
-  pub accepted_reached_left : (w : List ℕ) → t ≡ true → (length es ≡ 0 → ⊥) → w ≡ written (fitted room (result s (reached s es (replicate 1024 false)))) out → w ≡ written (accepted s es room) out
+  pub accepted_reached_left : (w : List ℕ) → t ≡ true → (length es ≡ 0 → ⊥) → w ≡ written (fitted room (kept_file s (reached s es (replicate 1024 false)))) out → w ≡ written (accepted s es room) out
   accepted_reached_left w h z e = e ∙ ap (λ b. written b out) (reached_said h z)
 
   pub accepted_refused_is : t ≡ false → Refused 5 ≡ answered (accepted s es room)

@@ -8,14 +8,14 @@ ghost use Rattle.text_writers.specs.Wrote.{Wrote};
 ghost use Rattle.reach_names.specs.Reach.{reached};
 ghost use Rattle.convert_frame.specs.Head.{head_bytes};
 ghost use Rattle.ends.specs.Ends.{on};
-ghost use Rattle.pruning.specs.Kept.{entries_below, kept_count, kept_net, kept_bytes, result, accepted, Gives};
+ghost use Rattle.pruning.specs.Kept.{entries_below, kept_count, kept_net, kept_bytes, kept_file, accepted, Gives};
 
 use convert_frame::Converted;
 use net_check::Checked;
 
 // Whether every entry is below the name count.
 fn below(entries: &[u32], n: u32) -> bool
-    ensures* { λ r. ⌜ r ≡ entries_below entries.now n ⌝ }
+    ensures { result ≡ entries_below entries.now n }
 {
     let mut j: usize = 0;
     while j < entries.len() {
@@ -28,7 +28,7 @@ fn below(entries: &[u32], n: u32) -> bool
 }
 
 fn marked(marks: &[bool], i: usize) -> bool
-    ensures* { λ r. ⌜ r ≡ get_or marks.now i false ⌝ }
+    ensures { result ≡ get_or marks.now i false }
 {
     if i < marks.len() { marks[i] } else { false }
 }
@@ -37,14 +37,14 @@ fn marked(marks: &[bool], i: usize) -> bool
 
 // One where the name is marked.
 fn count_net(marks: &[bool], i: usize) -> u16
-    ensures* { λ r. ⌜ (r ≡ bit (get_or marks.now i false)) × (r ≤ 1) ⌝ }
+    ensures { (result ≡ bit (get_or marks.now i false)) × (result ≤ 1) }
 {
     if marked(marks, i) { 1 } else { 0 }
 }
 
 // How many of n nets from `from` on are kept.
 fn count_kept(s: &[u8], marks: &[bool], from: usize, n: u16) -> u16
-    ensures* { λ r. ⌜ r ≡ kept_count s.now marks.now from n ⌝ }
+    ensures { result ≡ kept_count s.now marks.now from n }
 {
     let mut at = from;
     let mut c: u16 = 0;
@@ -59,7 +59,7 @@ fn count_kept(s: &[u8], marks: &[bool], from: usize, n: u16) -> u16
 
 // One net, from `at` to e, where it is kept.
 fn write_net(s: &[u8], marks: &[bool], at: usize, e: usize, out: &mut [u8], p: usize) -> usize
-    ensures* { λ r. ⌜ Wrote (kept_net s.now marks.now at e) p out.old out.new r ⌝ }
+    ensures { Wrote (kept_net s.now marks.now at e) p out.old out.new result }
 {
     if marked(marks, fields::be16(s, at) as usize) {
         return field_writers::bytes(out, p, s, at, e);
@@ -69,7 +69,7 @@ fn write_net(s: &[u8], marks: &[bool], at: usize, e: usize, out: &mut [u8], p: u
 
 // Those of n nets from `from` on that are kept.
 fn write_kept(s: &[u8], marks: &[bool], from: usize, n: u16, out: &mut [u8], place: usize) -> usize
-    ensures* { λ r. ⌜ Wrote (kept_bytes s.now marks.now from n) place out.old out.new r ⌝ }
+    ensures { Wrote (kept_bytes s.now marks.now from n) place out.old out.new result }
 {
     let mut at = from;
     let mut p = place;
@@ -93,7 +93,7 @@ fn write_result(
     length: usize,
     out: &mut [u8],
 ) -> usize
-    ensures* { λ r. ⌜ Wrote (head_bytes s.now q 1 count length ++ kept_bytes s.now marks.now (on s.now q 2) n) 0 out.old out.new r ⌝ }
+    ensures { Wrote (head_bytes s.now q 1 count length ++ kept_bytes s.now marks.now (on s.now q 2) n) 0 out.old out.new result }
 {
     let p = convert_frame::head(out, s, q, 1, count, length);
     write_kept(s, marks, ends::on(s, q, 2), n, out, p)
@@ -103,7 +103,7 @@ fn write_result(
 
 // The nets whose names are marked. Written first into a slice of one byte, which tells the length.
 fn prune_marked(s: &[u8], marks: &[bool], out: &mut [u8]) -> Converted
-    ensures* { λ r. ⌜ Gives (fitted (length out.old) (result s.now marks.now)) out.old r out.new ⌝ }
+    ensures { Gives (fitted (length out.old) (kept_file s.now marks.now)) out.old result out.new }
 {
     let q = readers::net_count_at(s);
     let n = fields::be16(s, q);
@@ -119,7 +119,7 @@ fn prune_marked(s: &[u8], marks: &[bool], out: &mut [u8]) -> Converted
 
 // The file as it is: without entries nothing is removed.
 fn prune_nothing(s: &[u8], out: &mut [u8]) -> Converted
-    ensures* { λ r. ⌜ Gives (fitted (length out.old) s.now) out.old r out.new ⌝ }
+    ensures { Gives (fitted (length out.old) s.now) out.old result out.new }
 {
     let n = s.len();
     if out.len() < n {
@@ -131,7 +131,7 @@ fn prune_nothing(s: &[u8], out: &mut [u8]) -> Converted
 
 // A mark for each of 1,024 names, all clear at first.
 fn prune_reached(s: &[u8], entries: &[u32], out: &mut [u8]) -> Converted
-    ensures* { λ r. ⌜ Gives (fitted (length out.old) (result s.now (reached s.now entries.now (replicate 1024 false)))) out.old r out.new ⌝ }
+    ensures { Gives (fitted (length out.old) (kept_file s.now (reached s.now entries.now (replicate 1024 false)))) out.old result out.new }
 {
     let mut marks = [false; 1024];
     reach_names::reached(s, entries, &mut marks);
@@ -140,7 +140,7 @@ fn prune_reached(s: &[u8], entries: &[u32], out: &mut [u8]) -> Converted
 
 // An accepted file: 5 where an entry is not below the name count, then 15.
 fn prune_accepted(s: &[u8], entries: &[u32], out: &mut [u8]) -> Converted
-    ensures* { λ r. ⌜ Gives (accepted s.now entries.now (length out.old)) out.old r out.new ⌝ }
+    ensures { Gives (accepted s.now entries.now (length out.old)) out.old result out.new }
 {
     let n = readers::name_count(s);
     if below(entries, n as u32) {
@@ -154,7 +154,7 @@ fn prune_accepted(s: &[u8], entries: &[u32], out: &mut [u8]) -> Converted
 
 // Keeps exactly what is reached from the entries. Refused by 2 to 8 as the file is, then by 5 and 15.
 pub fn prune(file: &[u8], entries: &[u32], out: &mut [u8]) -> Converted
-    ensures* { λ r. ⌜ Gives (pruned entries.now (length out.old) file.now) out.old r out.new ⌝ }
+    ensures { Gives (pruned entries.now (length out.old) file.now) out.old result out.new }
 {
     let checked = net_check::check_flat(file);
     match checked {

@@ -1,0 +1,6 @@
+use Rattle.std.proofs.Common.{sym}
+use lib.Seq.{set_out}
+use Rattle.name_table.proofs.put.Goals as goal
+
+pub returns-else-i-l : goal.returns-else-i-l
+returns-else-i-l c = sym (set_out _ _ _ c.if-i-l.false)

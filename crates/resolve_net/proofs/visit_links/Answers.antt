@@ -1,0 +1,35 @@
+use Rattle.std.proofs.Common.{◌≡◌, arith, rules}
+use Rattle.resolve_net.specs.Ways.{visit_links_more, visit_links_deep, visit_links_done}
+use Rattle.resolve_net.specs.Renamed.{visit_links}
+use Rattle.resolve_walk.specs.Penned.{penned}
+use Rattle.resolve_net.proofs.visit_links.Goals as goal
+
+pub loop-k-init : goal.loop-k-init
+loop-k-init c = (cc, search rules, search rules)
+
+pub shape_of-ws-in-Deep : goal.shape_of-ws-in-Deep
+shape_of-ws-in-Deep c = omega arith
+
+pub shape_of-out-in-Deep : goal.shape_of-out-in-Deep
+shape_of-out-in-Deep c = omega arith
+
+pub returns-in-Deep : goal.returns-in-Deep
+returns-in-Deep c = penned {x = visit_links _ _ _ _ _ _} (search visit_links_deep)
+
+pub overflow_sub-k : goal.overflow_sub-k
+overflow_sub-k c = omega arith
+
+pub loop-k-smaller : goal.loop-k-smaller
+loop-k-smaller c = omega arith
+
+pub loop-k-preserved : goal.loop-k-preserved
+loop-k-preserved c = (search visit_links_more, omega arith, omega arith)
+
+pub shape_of-ws : goal.shape_of-ws
+shape_of-ws c = omega arith
+
+pub shape_of-out : goal.shape_of-out
+shape_of-out c = omega arith
+
+pub returns : goal.returns
+returns c = penned {x = visit_links _ _ _ _ _ _} (search visit_links_done)

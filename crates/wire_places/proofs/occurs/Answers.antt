@@ -1,0 +1,4 @@
+use Rattle.wire_places.proofs.occurs.Goals as goal
+
+pub returns : goal.returns
+returns c = cc
