@@ -37,7 +37,7 @@ use Rattle.reached_laws.specs.Wires.{home_at}
 use Rattle.reached_laws.specs.Files.{LimitLeft}
 use Rattle.reached_laws.specs.Image.{Image}
 use Rattle.size_laws.specs.Each.{each_more}
-use Rattle.size_laws.specs.Files.{flat_fits}
+use Rattle.size_laws.proofs.Files.{flat_fits}
 use Rattle.result_laws.specs.Tables.{result_table, result_joined, table_longer, table_paths, table_others, table_few, table_differ, table_unnamed, names_wider, rule_wider, net_wider}
 use Rattle.result_laws.specs.Nets.{Finishes, found, live_nodes_lem, live_few, net_drawn, net_finishes, net_ports}
 
