@@ -30,7 +30,7 @@ use Rattle.graph_laws.specs.Rest.{FreeNode, holds_filled}
 use Rattle.graph_laws.specs.Nodes.{AllNodes}
 use Rattle.load_laws.specs.Finds.{all_mem}
 use Rattle.load_laws.specs.Begin.{Writable, each_mem, T_true, not_false}
-use Rattle.finish_laws.specs.Twice.{drawn_wired}
+use Rattle.finish_laws.proofs.Twice.{drawn_wired}
 use Rattle.finish_laws.specs.Fits.{each_map, drawn_fits}
 use Rattle.reached_laws.specs.Accepted.{free_number}
 use Rattle.reached_laws.specs.Wires.{home_at}
