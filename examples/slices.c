@@ -1,8 +1,8 @@
 /* Optimises a net file in slices of one step, as a controller would between two telegrams.
  *
- *     rt staticlib ivy_c
- *     cc -O2 -Iinclude -o target/slices examples/slices.c target/staticlib/libivy_c.a
- *     target/slices examples/p1.net result.net
+ *     (cd crates/ivy_c && rt lib) && mkdir -p out
+ *     cc -O2 -Iinclude -o out/slices examples/slices.c crates/ivy_c/out/libivy_c.a
+ *     out/slices examples/p1.net result.net
  */
 #include <stdio.h>
 #include <stdlib.h>

@@ -1,8 +1,8 @@
 //! Optimises a net file in slices of one step, as a controller would between two telegrams.
 //!
-//!     rt staticlib ivy_c
-//!     rustc -O -L target/staticlib -l static=ivy_c -o target/slices-rust examples/slices.rs
-//!     target/slices-rust examples/p1.net result.net
+//!     (cd crates/ivy_c && rt lib) && mkdir -p out
+//!     rustc -O -L crates/ivy_c/out -l static=ivy_c -o out/slices-rust examples/slices.rs
+//!     out/slices-rust examples/p1.net result.net
 
 #[repr(C)]
 struct Answer {

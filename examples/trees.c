@@ -1,8 +1,8 @@
 /* Optimises a tree file: it is made flat, optimised in one call, made a tree file again, and its links are resolved.
  *
- *     rt staticlib ivy_c; rt staticlib ivy_files_c
- *     cc -O2 -Iinclude -o target/trees examples/trees.c target/staticlib/libivy_c.a target/staticlib/libivy_files_c.a
- *     target/trees examples/p1-tree.net result.net
+ *     (cd crates/ivy_c && rt lib) && (cd crates/ivy_files_c && rt lib) && mkdir -p out
+ *     cc -O2 -Iinclude -o out/trees examples/trees.c crates/ivy_c/out/libivy_c.a crates/ivy_files_c/out/libivy_files_c.a
+ *     out/trees examples/p1-tree.net result.net
  */
 #include <stdio.h>
 #include <stdlib.h>

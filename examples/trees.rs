@@ -1,8 +1,8 @@
 //! Optimises a tree file: it is made flat, optimised in one call, made a tree file again, and its links are resolved.
 //!
-//!     rt staticlib ivy_c; rt staticlib ivy_files_c
-//!     rustc -O -L target/staticlib -l static=ivy_c -l static=ivy_files_c -o target/trees-rust examples/trees.rs
-//!     target/trees-rust examples/p1-tree.net result.net
+//!     (cd crates/ivy_c && rt lib) && (cd crates/ivy_files_c && rt lib) && mkdir -p out
+//!     rustc -O -L crates/ivy_c/out -L crates/ivy_files_c/out -l static=ivy_c -l static=ivy_files_c -o out/trees-rust examples/trees.rs
+//!     out/trees-rust examples/p1-tree.net result.net
 
 #[repr(C)]
 struct Answer {

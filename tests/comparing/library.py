@@ -1,6 +1,6 @@
 """The calls of include/ivy.h, by ctypes, on lent memory that is looked at before and after each call.
 
-Each call is held against what document 01 says of everything that was lent: what a refusal leaves, what a success leaves,
+Each call is held against what include/ivy.h says of everything that was lent: what a refusal leaves, what a success leaves,
 that no output is written on refusal, and that nothing past the used part changes."""
 
 import ctypes
@@ -32,7 +32,7 @@ class Answer(ctypes.Structure):
 def linked(archive, folder):
     """The static library as a shared one, under a name of this process's own."""
     if not os.path.isfile(archive):
-        raise SystemExit("%s is not there: rt staticlib ivy_c makes it" % archive)
+        raise SystemExit("%s is not there: rt lib in crates/ivy_c makes it" % archive)
     shared = os.path.join(folder, "libivy_c-%d.so" % os.getpid())
     subprocess.check_call(["gcc", "-shared", "-o", shared, "-Wl,--whole-archive", archive, "-Wl,--no-whole-archive"])
     return shared

@@ -3,8 +3,9 @@
 // A file whose fifth byte is 65 goes to check_tree, any other to check_flat. One of over 524,288 bytes is `refused 2`.
 #![tactic(auto)]
 
-use libc::{STDIN_FILENO, STDOUT_FILENO};
 use net_check::Checked;
+use std::array;
+use std::io::{self, Read};
 
 const LARGEST_FILE: usize = 524288;
 
@@ -18,35 +19,30 @@ fn checked(file: &[u8]) -> Checked {
     }
 }
 
-fn print_refused(number: u8) {
-    io::write_all(STDOUT_FILENO, b"refused ");
-    io::print_decimal(STDOUT_FILENO, number as u64);
-    io::write_all(STDOUT_FILENO, b"\n");
+fn print_refused(rt: &impl Print, number: u8) -> io::Result<()> {
+    println!(rt; "refused {number}")
 }
 
-fn print(answer: Checked) {
+fn print(rt: &impl Print, answer: Checked) -> io::Result<()> {
     match answer {
-        Checked::Accepted => {
-            io::write_all(STDOUT_FILENO, b"accepted\n");
-        }
-        Checked::Refused(number) => {
-            print_refused(number);
-        }
+        Checked::Accepted => println!(rt; "accepted"),
+        Checked::Refused(number) => print_refused(rt, number),
     }
 }
 
-// Whether a byte of standard input is left; it is taken.
-fn has_more() -> bool {
+// Whether a byte of the input is left; it is taken.
+fn has_more(from: &mut impl Read) -> io::Result<bool> {
     let mut byte = [0u8; 1];
-    io::read_full(STDIN_FILENO, &mut byte) > 0
+    let n = input::read_full(from, &mut byte)?;
+    Ok(n > 0)
 }
 
-fn main() {
-    let mut file = [0u8; LARGEST_FILE];
-    let n = io::read_full(STDIN_FILENO, &mut file);
-    if n == LARGEST_FILE && has_more() {
-        print_refused(2);
-        return;
+fn main(rt: HostRuntime) -> io::Result<()> {
+    let mut stdin = rt.stdin();
+    let mut file: [u8; LARGEST_FILE] = array::repeat(0);
+    let n = input::read_full(&mut stdin, &mut file)?;
+    if n == LARGEST_FILE && has_more(&mut stdin)? {
+        return print_refused(&rt, 2);
     }
-    print(checked(&file[..n]));
+    print(&rt, checked(&file[..n]))
 }

@@ -4,7 +4,7 @@ use Rattle.lent.specs.declared.Answer.{Answer}
 use Rattle.lent.specs.declared.Answer.TheVariants.{Done, Refused}
 use Rattle.ivy_c.specs.declared.IvyAnswer.{IvyAnswer}
 
--- document 01's number of a refusal, or 0 and the answer's number
+-- the number of a refusal (docs/REFUSALS.md), or 0 and the answer's number
 unfoldable pub plain : Answer → IvyAnswer
 plain (Done n) = record { refusal = 0; value = n }
 plain (Refused r) = record { refusal = r; value = 0 }

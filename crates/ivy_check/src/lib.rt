@@ -9,6 +9,7 @@ ghost use Rattle.net_check.specs.Verdict.{number_of, verdict};
 use net_check::Checked;
 
 // The number of an answer.
+#[tactic(auto, unfolding(net_check::specs::Verdict::number_of))]
 fn number(answer: Checked) -> u32
     ensures { result ≡ number_of answer }
 {

@@ -9,7 +9,7 @@ use Rattle.convert_frame.specs.declared.Converted.{Converted}
 use Rattle.convert_frame.specs.declared.Converted.TheVariants.{Written, Refused}
 use Rattle.ivy_files_c.specs.declared.IvyConverted.{IvyConverted}
 
--- document 01's number of a refusal, or 0 and the length of the result
+-- the number of a refusal (docs/REFUSALS.md), or 0 and the length of the result
 unfoldable pub plain : Converted → IvyConverted
 plain (Written n) = record { refusal = 0; length = n }
 plain (Refused r) = record { refusal = r; length = 0 }

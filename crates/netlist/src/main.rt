@@ -1,12 +1,13 @@
-// Optimises the flat net file on standard input and prints what came of it, or by which number it is refused. Document 01, "Checked examples".
+// Optimises the flat net file on standard input and prints what came of it, or by which number it is refused.
 #![tactic(auto)]
 
 ghost use Rattle.put.specs.Written.{Written};
 ghost use Rattle.netlist.specs.Said.{listed, said};
 
 use lent::Answer;
-use libc::{STDIN_FILENO, STDOUT_FILENO};
 use put::Put;
+use std::array;
+use std::io::{self, Read};
 
 const NODES: u32 = 256;
 
@@ -25,6 +26,7 @@ const LARGEST_RESULT: usize = 24576;
 const LARGEST_TEXT: usize = 131072;
 
 // The text of the result, the first n bytes.
+#[tactic(auto, using(crate::specs::Said::listed_all), unfolding(crate::specs::Said::listed))]
 fn listed(res: &[u8], n: usize, text: &mut [u8]) -> Put
     ensures { Written (listed res.now n) 0 text.old text.new result }
 {
@@ -35,6 +37,7 @@ fn listed(res: &[u8], n: usize, text: &mut [u8]) -> Put
 }
 
 // What is printed of an answer.
+#[tactic(auto, using(crate::specs::Said::said_done, crate::specs::Said::said_refused))]
 fn say(answer: Answer, res: &[u8], text: &mut [u8]) -> Put
     ensures { Written (said answer res.now) 0 text.old text.new result }
 {
@@ -45,9 +48,9 @@ fn say(answer: Answer, res: &[u8], text: &mut [u8]) -> Put
 }
 
 fn optimized(file: &[u8], text: &mut [u8]) -> Put {
-    let mut words = [0u32; WORKSPACE];
-    let mut copy = [0u8; LARGEST_FILE];
-    let mut result = [0u8; LARGEST_RESULT];
+    let mut words: [u32; WORKSPACE] = array::repeat(0);
+    let mut copy: [u8; LARGEST_FILE] = array::repeat(0);
+    let mut result: [u8; LARGEST_RESULT] = array::repeat(0);
     let answer = ivy::optimize(
         NODES,
         ENTRIES,
@@ -60,39 +63,37 @@ fn optimized(file: &[u8], text: &mut [u8]) -> Put {
     say(answer, &result, text)
 }
 
-fn print_front(text: &[u8], n: usize) {
+fn print_front(rt: &impl Print, text: &[u8], n: usize) -> io::Result<()> {
     if n <= text.len() {
-        io::write_all(STDOUT_FILENO, &text[..n]);
+        rt.write_all(&text[..n])?;
     }
+    Ok(())
 }
 
 // Where there is no room for a text, which cannot be, nothing is printed but 15.
-fn print(text: &[u8], put: Put) {
+fn print(rt: &impl Print, text: &[u8], put: Put) -> io::Result<()> {
     match put {
-        Put::At(n) => {
-            print_front(text, n);
-        }
-        Put::Full => {
-            io::write_all(STDOUT_FILENO, b"refused 15\n");
-        }
+        Put::At(n) => print_front(rt, text, n),
+        Put::Full => println!(rt; "refused 15"),
     }
 }
 
-// Whether a byte of standard input is left; it is taken.
-fn has_more() -> bool {
+// Whether a byte of the input is left; it is taken.
+fn has_more(from: &mut impl Read) -> io::Result<bool> {
     let mut byte = [0u8; 1];
-    io::read_full(STDIN_FILENO, &mut byte) > 0
+    let n = input::read_full(from, &mut byte)?;
+    Ok(n > 0)
 }
 
-fn main() {
-    let mut file = [0u8; LARGEST_FILE];
-    let mut text = [0u8; LARGEST_TEXT];
-    let n = io::read_full(STDIN_FILENO, &mut file);
-    if n == LARGEST_FILE && has_more() {
+fn main(rt: HostRuntime) -> io::Result<()> {
+    let mut stdin = rt.stdin();
+    let mut file: [u8; LARGEST_FILE] = array::repeat(0);
+    let mut text: [u8; LARGEST_TEXT] = array::repeat(0);
+    let n = input::read_full(&mut stdin, &mut file)?;
+    if n == LARGEST_FILE && has_more(&mut stdin)? {
         let put = listing::refused(2, &mut text);
-        print(&text, put);
-        return;
+        return print(&rt, &text, put);
     }
     let put = optimized(&file[..n], &mut text);
-    print(&text, put);
+    print(&rt, &text, put)
 }

@@ -38,6 +38,7 @@ of_kept seen n (m ∷ ns) (later o) h = elim (tested (any (eqb m.name) seen)) [
   | inl e ↦ subst (Of n) (sym (keep_yes seen m ns e)) (later (of_kept seen n ns o h))
   | inr e ↦ subst (Of n) (sym (keep_not seen m ns e)) (of_kept seen n ns o h)
 ]
+of_kept seen n [] x'' h = elim x'' [ ]
 
 -- sound and complete
 pub keeps_reached : (bs : List ℕ) → Bytes bs → (f : File FlatNet) → read flat bs ≡ ok f → (i : ℕ) (is : List ℕ) → ((j : ℕ) → In j (i ∷ is) → j < length f.names)

@@ -9,7 +9,8 @@ mod item;
 
 use convert_frame::Converted;
 use item::{Item, entries_of, said};
-use libc::{STDIN_FILENO, STDOUT_FILENO};
+use std::array;
+use std::io::{self, Read};
 
 // A list is read no further than this.
 const MOST_FILES: u64 = 100000;
@@ -47,7 +48,7 @@ fn same_result(length: usize, expected: &[u8], out: &[u8]) -> bool {
     if out.len() < length {
         return false;
     }
-    check::same(&out[..length], expected)
+    &out[..length] == expected
 }
 
 fn as_expected(answer: Converted, refusal: u32, expected: &[u8], out: &[u8]) -> bool {
@@ -75,19 +76,21 @@ fn replay_item(
 }
 
 // Reads as many bytes as `part` has room for.
-fn read_part(part: &mut [u8]) -> bool {
-    let got = io::read_full(STDIN_FILENO, part);
-    got == part.len()
+fn read_part(from: &mut impl Read, part: &mut [u8]) -> io::Result<bool> {
+    let got = input::read_full(from, part)?;
+    Ok(got == part.len())
 }
 
 // The end of a list whose last item is not whole, or is longer than the room for it.
-fn broken_off() -> Replayed {
-    io::write_all(STDOUT_FILENO, b"the list breaks off\n");
-    Replayed::Ended
+fn broken_off(rt: &impl Print) -> io::Result<Replayed> {
+    println!(rt; "the list breaks off")?;
+    Ok(Replayed::Ended)
 }
 
 // Reads the entries, the file and the expected result into the room that they fill, then replays.
 fn replay_read(
+    rt: &impl Print,
+    from: &mut impl Read,
     item: Item,
     listed: &mut [u8],
     entries: &mut [u32],
@@ -95,47 +98,51 @@ fn replay_read(
     expected: &mut [u8],
     scratch: &mut [u32],
     out: &mut [u8],
-) -> Replayed {
-    if !read_part(listed) {
-        return broken_off();
+) -> io::Result<Replayed> {
+    if !read_part(from, listed)? {
+        return broken_off(rt);
     }
-    if !read_part(file) {
-        return broken_off();
+    if !read_part(from, file)? {
+        return broken_off(rt);
     }
-    if !read_part(expected) {
-        return broken_off();
+    if !read_part(from, expected)? {
+        return broken_off(rt);
     }
     entries_of(listed, entries);
-    replay_item(item, file, entries, expected, scratch, out)
+    Ok(replay_item(item, file, entries, expected, scratch, out))
 }
 
 // Replays the next item of the list.
 fn replay_next(
+    rt: &impl Print,
+    from: &mut impl Read,
     file: &mut [u8],
     expected: &mut [u8],
     scratch: &mut [u32],
     out: &mut [u8],
-) -> Replayed {
+) -> io::Result<Replayed> {
     let mut head = [0u8; 16];
     let mut listed = [0u8; 64];
     let mut entries = [0u32; 32];
-    let got = io::read_full(STDIN_FILENO, &mut head);
+    let got = input::read_full(from, &mut head)?;
     if got == 0 {
-        return Replayed::Ended;
+        return Ok(Replayed::Ended);
     }
     let item = said(&head);
     let count = item.count;
     if count > 32 {
-        return broken_off();
+        return broken_off(rt);
     }
     if got < 16
         || item.length > file.len()
         || item.result > expected.len()
         || item.room > out.len()
     {
-        return broken_off();
+        return broken_off(rt);
     }
     replay_read(
+        rt,
+        from,
         item,
         &mut listed[..2 * count],
         &mut entries[..count],
@@ -146,21 +153,19 @@ fn replay_next(
     )
 }
 
-fn show(file: u64) {
-    io::write_all(STDOUT_FILENO, b"file ");
-    io::print_decimal(STDOUT_FILENO, file);
-    io::write_all(STDOUT_FILENO, b" differs\n");
+fn show(rt: &impl Print, file: u64) -> io::Result<()> {
+    println!(rt; "file {file} differs")
 }
 
 // One more difference, which is shown while they are few.
-fn counted(different: u64, file: u64) -> u64 {
+fn counted(rt: &impl Print, different: u64, file: u64) -> io::Result<u64> {
     if different < MOST_SHOWN {
-        show(file);
+        show(rt, file)?;
     }
     if different < MOST_FILES {
-        return different + 1;
+        return Ok(different + 1);
     }
-    different
+    Ok(different)
 }
 
 #[derive(Clone, Copy)]
@@ -169,39 +174,50 @@ struct Tally {
     different: u64,
 }
 
-fn replay_all(file: &mut [u8], expected: &mut [u8], scratch: &mut [u32], out: &mut [u8]) -> Tally {
+fn replay_all(
+    rt: &impl Print,
+    from: &mut impl Read,
+    file: &mut [u8],
+    expected: &mut [u8],
+    scratch: &mut [u32],
+    out: &mut [u8],
+) -> io::Result<Tally> {
     let mut different = 0;
     let mut left = MOST_FILES;
     while left > 0 {
-        let gone = replay_next(file, expected, scratch, out);
+        let gone = replay_next(rt, from, file, expected, scratch, out)?;
         match gone {
             Replayed::Same => {}
             Replayed::Different => {
-                different = counted(different, MOST_FILES - left);
+                different = counted(rt, different, MOST_FILES - left)?;
             }
             Replayed::Ended => {
-                return Tally {
+                return Ok(Tally {
                     files: MOST_FILES - left,
                     different: different,
-                };
+                });
             }
         }
         left -= 1;
     }
-    Tally {
+    Ok(Tally {
         files: MOST_FILES - left,
         different: different,
-    }
+    })
 }
 
-fn main() {
-    let mut file = [0u8; 65536];
-    let mut expected = [0u8; 65536];
-    let mut scratch = [0u32; 262144];
-    let mut out = [0u8; 65536];
-    let tally = replay_all(&mut file, &mut expected, &mut scratch, &mut out);
-    io::print_decimal(STDOUT_FILENO, tally.files);
-    io::write_all(STDOUT_FILENO, b" files, ");
-    io::print_decimal(STDOUT_FILENO, tally.different);
-    io::write_all(STDOUT_FILENO, b" different\n");
+fn main(rt: HostRuntime) -> io::Result<()> {
+    let mut file: [u8; 65536] = array::repeat(0);
+    let mut expected: [u8; 65536] = array::repeat(0);
+    let mut scratch: [u32; 262144] = array::repeat(0);
+    let mut out: [u8; 65536] = array::repeat(0);
+    let tally = replay_all(
+        &rt,
+        &mut rt.stdin(),
+        &mut file,
+        &mut expected,
+        &mut scratch,
+        &mut out,
+    )?;
+    println!(rt; "{} files, {} different", tally.files, tally.different)
 }

@@ -4,13 +4,14 @@
 // (0 accepted, else the number it is refused by), u32 big-endian length, the bytes. tests/README.md says how it is made.
 #![tactic(auto)]
 
-ghost use Rattle.std.specs.Prelude.{◌+◌, ◌≤◌, ◌<◌, ◌≡◌};
+ghost use Rattle.std.specs.Prelude.{◌+◌, ◌≤◌, ◌<◌, ◌≡◌, IfOk};
 ghost use Rattle.replay_files.specs.Stream.{file_length};
 ghost use Rattle.replay_files.specs.Tallied.{after};
 ghost use Rattle.replay_files.specs.Tallied.{compared as Tallied·compared};
 
-use libc::{STDIN_FILENO, STDOUT_FILENO};
 use net_check::Checked;
+use std::array;
+use std::io::{self, Read};
 
 const TREE_CALL: u8 = 65;
 // A list is read no further than this.
@@ -74,47 +75,60 @@ fn compared(expected: u8, got: u8) -> Replayed
 }
 
 // The end of a list whose last file is not whole, or is longer than the room for it.
-fn broken_off() -> Replayed
-    ensures { result ≡ Replayed.Ended }
+fn broken_off(rt: &impl Print) -> io::Result<Replayed>
+    ensures { IfOk result (λ r. r ≡ Replayed.Ended) }
 {
-    io::write_all(STDOUT_FILENO, b"the list breaks off\n");
-    Replayed::Ended
+    println!(rt; "the list breaks off")?;
+    Ok(Replayed::Ended)
 }
 
 // Reads as many bytes as `file` has room for, and gives them to the checker.
-fn replay_file(call: u8, expected: u8, file: &mut [u8]) -> Replayed {
-    let got = io::read_full(STDIN_FILENO, file);
+fn replay_file(
+    rt: &impl Print,
+    from: &mut impl Read,
+    call: u8,
+    expected: u8,
+    file: &mut [u8],
+) -> io::Result<Replayed> {
+    let got = input::read_full(from, file)?;
     if got < file.len() {
-        return broken_off();
+        return broken_off(rt);
     }
-    compared(expected, answer(call, file))
+    Ok(compared(expected, answer(call, file)))
 }
 
 // Replays the next file of the list, in the room of `buf`.
-fn replay_next(buf: &mut [u8]) -> Replayed {
+fn replay_next(rt: &impl Print, from: &mut impl Read, buf: &mut [u8]) -> io::Result<Replayed> {
     let mut head = [0u8; 6];
-    let got = io::read_full(STDIN_FILENO, &mut head);
+    let got = input::read_full(from, &mut head)?;
     if got == 0 {
-        return Replayed::Ended;
+        return Ok(Replayed::Ended);
     }
     let n = file_length(&head);
     if got < 6 || n > buf.len() {
-        return broken_off();
+        return broken_off(rt);
     }
-    replay_file(head[0], head[1], &mut buf[..n])
+    replay_file(rt, from, head[0], head[1], &mut buf[..n])
 }
 
-fn show(file: u64, expected: u8, got: u8) {
-    io::write_all(STDOUT_FILENO, b"file ");
-    io::print_decimal(STDOUT_FILENO, file);
-    io::write_all(STDOUT_FILENO, b": expected ");
-    io::print_decimal(STDOUT_FILENO, expected as u64);
-    io::write_all(STDOUT_FILENO, b", got ");
-    io::print_decimal(STDOUT_FILENO, got as u64);
-    io::write_all(STDOUT_FILENO, b"\n");
+fn show(rt: &impl Print, file: u64, expected: u8, got: u8) -> io::Result<()> {
+    println!(rt; "file {file}: expected {expected}, got {got}")
 }
 
-// The tally after one file more, which is shown where it differs.
+// Shows a difference while they are few.
+fn show_different(rt: &impl Print, tally: Tally, replayed: Replayed) -> io::Result<()> {
+    match replayed {
+        Replayed::Different(expected, got) => {
+            if tally.different < MOST_SHOWN {
+                show(rt, tally.files, expected, got)?;
+            }
+            Ok(())
+        }
+        Replayed::Same | Replayed::Ended => Ok(()),
+    }
+}
+
+// The tally after one file more.
 fn counted(tally: Tally, replayed: Replayed) -> Tally
     requires files_bound { tally.files < 100000 }
     requires different_le_files { tally.different ≤ tally.files }
@@ -130,16 +144,11 @@ fn counted(tally: Tally, replayed: Replayed) -> Tally
             different: different,
             ended: false,
         },
-        Replayed::Different(expected, got) => {
-            if different < MOST_SHOWN {
-                show(files, expected, got);
-            }
-            Tally {
-                files: files + 1,
-                different: different + 1,
-                ended: false,
-            }
-        }
+        Replayed::Different(_, _) => Tally {
+            files: files + 1,
+            different: different + 1,
+            ended: false,
+        },
         Replayed::Ended => Tally {
             files: files,
             different: different,
@@ -148,7 +157,7 @@ fn counted(tally: Tally, replayed: Replayed) -> Tally
     }
 }
 
-fn replay_all(buf: &mut [u8]) -> Tally {
+fn replay_all(rt: &impl Print, from: &mut impl Read, buf: &mut [u8]) -> io::Result<Tally> {
     let mut tally = Tally {
         files: 0,
         different: 0,
@@ -156,17 +165,16 @@ fn replay_all(buf: &mut [u8]) -> Tally {
     };
     let mut left = MOST_FILES;
     while left > 0 && !tally.ended {
-        tally = counted(tally, replay_next(buf));
+        let replayed = replay_next(rt, from, buf)?;
+        show_different(rt, tally, replayed)?;
+        tally = counted(tally, replayed);
         left -= 1;
     }
-    tally
+    Ok(tally)
 }
 
-fn main() {
-    let mut buf = [0u8; 524288];
-    let tally = replay_all(&mut buf);
-    io::print_decimal(STDOUT_FILENO, tally.files);
-    io::write_all(STDOUT_FILENO, b" files, ");
-    io::print_decimal(STDOUT_FILENO, tally.different);
-    io::write_all(STDOUT_FILENO, b" different\n");
+fn main(rt: HostRuntime) -> io::Result<()> {
+    let mut buf: [u8; 524288] = array::repeat(0);
+    let tally = replay_all(&rt, &mut rt.stdin(), &mut buf)?;
+    println!(rt; "{} files, {} different", tally.files, tally.different)
 }

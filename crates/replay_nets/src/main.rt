@@ -12,8 +12,9 @@ mod same;
 ghost use Rattle.std.specs.Prelude.{◌≤◌};
 
 use item::{Item, said};
-use libc::{STDIN_FILENO, STDOUT_FILENO};
 use run::replay_item;
+use std::array;
+use std::io::{self, Read};
 
 // A list is read no further than this.
 const MOST_FILES: u64 = 100000;
@@ -51,9 +52,9 @@ fn at_place(place: u64) -> Replayed {
 }
 
 // Reads as many bytes as `part` has room for.
-fn read_part(part: &mut [u8]) -> bool {
-    let got = io::read_full(STDIN_FILENO, part);
-    got == part.len()
+fn read_part(from: &mut impl Read, part: &mut [u8]) -> io::Result<bool> {
+    let got = input::read_full(from, part)?;
+    Ok(got == part.len())
 }
 
 // One item, in the part of the room that it needs; 8 where it needs more.
@@ -89,13 +90,15 @@ fn replay_in(
 }
 
 // The end of a list whose last item is not whole, or is longer than the room for it.
-fn broken_off() -> Replayed {
-    io::write_all(STDOUT_FILENO, b"the list breaks off\n");
-    Replayed::Ended
+fn broken_off(rt: &impl Print) -> io::Result<Replayed> {
+    println!(rt; "the list breaks off")?;
+    Ok(Replayed::Ended)
 }
 
 // Reads the file and the expected result into the room that they fill, then replays.
 fn replay_read(
+    rt: &impl Print,
+    from: &mut impl Read,
     item: Item,
     words: &mut [u32],
     other: &mut [u32],
@@ -104,18 +107,21 @@ fn replay_read(
     file: &mut [u8],
     expected: &mut [u8],
     out: &mut [u8],
-) -> Replayed {
-    if read_part(file) {
-        if read_part(expected) {
-            return at_place(replay_in(item, words, other, bytes, held, file, expected, out));
+) -> io::Result<Replayed> {
+    if read_part(from, file)? {
+        if read_part(from, expected)? {
+            let place = replay_in(item, words, other, bytes, held, file, expected, out);
+            return Ok(at_place(place));
         }
-        return broken_off();
+        return broken_off(rt);
     }
-    broken_off()
+    broken_off(rt)
 }
 
 // Replays the next item of the list.
 fn replay_next(
+    rt: &impl Print,
+    from: &mut impl Read,
     words: &mut [u32],
     other: &mut [u32],
     bytes: &mut [u8],
@@ -123,19 +129,21 @@ fn replay_next(
     file: &mut [u8],
     expected: &mut [u8],
     out: &mut [u8],
-) -> Replayed {
+) -> io::Result<Replayed> {
     let mut head = [0u8; 24];
-    let got = io::read_full(STDIN_FILENO, &mut head);
+    let got = input::read_full(from, &mut head)?;
     if got == 0 {
-        return Replayed::Ended;
+        return Ok(Replayed::Ended);
     }
     let item = said(&head);
     let length = item.length;
     let result = item.result;
     if got < 24 || length > file.len() || result > expected.len() {
-        return broken_off();
+        return broken_off(rt);
     }
     replay_read(
+        rt,
+        from,
         item,
         words,
         other,
@@ -147,26 +155,24 @@ fn replay_next(
     )
 }
 
-fn show(file: u64, place: u64) {
-    io::write_all(STDOUT_FILENO, b"file ");
-    io::print_decimal(STDOUT_FILENO, file);
-    io::write_all(STDOUT_FILENO, b": differs at place ");
-    io::print_decimal(STDOUT_FILENO, place);
-    io::write_all(STDOUT_FILENO, b"\n");
+fn show(rt: &impl Print, file: u64, place: u64) -> io::Result<()> {
+    println!(rt; "file {file}: differs at place {place}")
 }
 
 // One more difference, which is shown while they are few.
-fn counted(different: u64, file: u64, place: u64) -> u64 {
+fn counted(rt: &impl Print, different: u64, file: u64, place: u64) -> io::Result<u64> {
     if different < MOST_SHOWN {
-        show(file, place);
+        show(rt, file, place)?;
     }
     if different < MOST_FILES {
-        return different + 1;
+        return Ok(different + 1);
     }
-    different
+    Ok(different)
 }
 
 fn replay_all(
+    rt: &impl Print,
+    from: &mut impl Read,
     words: &mut [u32],
     other: &mut [u32],
     bytes: &mut [u8],
@@ -174,40 +180,42 @@ fn replay_all(
     file: &mut [u8],
     expected: &mut [u8],
     out: &mut [u8],
-) -> Tally {
+) -> io::Result<Tally> {
     let mut different = 0;
     let mut left = MOST_FILES;
     while left > 0 {
-        let gone = replay_next(words, other, bytes, held, file, expected, out);
+        let gone = replay_next(rt, from, words, other, bytes, held, file, expected, out)?;
         match gone {
             Replayed::Same => {}
             Replayed::Different(place) => {
-                different = counted(different, MOST_FILES - left, place);
+                different = counted(rt, different, MOST_FILES - left, place)?;
             }
             Replayed::Ended => {
-                return Tally {
+                return Ok(Tally {
                     files: MOST_FILES - left,
                     different: different,
-                };
+                });
             }
         }
         left -= 1;
     }
-    Tally {
+    Ok(Tally {
         files: MOST_FILES - left,
         different: different,
-    }
+    })
 }
 
-fn main() {
-    let mut words = [0u32; 262144];
-    let mut other = [0u32; 262144];
-    let mut bytes = [0u8; 65536];
-    let mut held = [0u8; 65536];
-    let mut file = [0u8; 65536];
-    let mut expected = [0u8; 131072];
-    let mut out = [0u8; 131072];
+fn main(rt: HostRuntime) -> io::Result<()> {
+    let mut words: [u32; 262144] = array::repeat(0);
+    let mut other: [u32; 262144] = array::repeat(0);
+    let mut bytes: [u8; 65536] = array::repeat(0);
+    let mut held: [u8; 65536] = array::repeat(0);
+    let mut file: [u8; 65536] = array::repeat(0);
+    let mut expected: [u8; 131072] = array::repeat(0);
+    let mut out: [u8; 131072] = array::repeat(0);
     let tally = replay_all(
+        &rt,
+        &mut rt.stdin(),
         &mut words,
         &mut other,
         &mut bytes,
@@ -215,9 +223,6 @@ fn main() {
         &mut file,
         &mut expected,
         &mut out,
-    );
-    io::print_decimal(STDOUT_FILENO, tally.files);
-    io::write_all(STDOUT_FILENO, b" files, ");
-    io::print_decimal(STDOUT_FILENO, tally.different);
-    io::write_all(STDOUT_FILENO, b" different\n");
+    )?;
+    println!(rt; "{} files, {} different", tally.files, tally.different)
 }

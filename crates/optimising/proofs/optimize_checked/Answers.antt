@@ -1,0 +1,10 @@
+use Rattle.optimising.specs.Ways.{file_accepted, file_refused}
+use Rattle.finishing.specs.Finishing.{four}
+use Rattle.optimising.specs.Optimising as Spec
+use Rattle.optimising.proofs.optimize_checked.Goals as goal
+
+pub returns-in-Accepted : goal.returns-in-Accepted
+returns-in-Accepted c = four {x = Spec.optimize_checked _ _ _ _ _} (search file_accepted)
+
+pub returns-in-Refused : goal.returns-in-Refused
+returns-in-Refused c = four {x = Spec.optimize_checked _ _ _ _ _} (search file_refused)
