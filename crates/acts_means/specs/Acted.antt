@@ -35,7 +35,8 @@ use Rattle.means.specs.Frame.{rest_trans}
 use Rattle.script_means.specs.Dead.{Dead}
 use Rattle.script_means.specs.Tries.{Came, Tries, Between}
 use Rattle.removal_means.specs.Kept.{Kept, kept_set}
-use Rattle.removal_means.specs.Finish.{dead_kept, finish_edit_means}
+use Rattle.removal_means.specs.Finish.{dead_kept}
+use Rattle.removal_means.proofs.Finish.{finish_edit_means}
 use Rattle.names_means.specs.Kept as Names
 use Rattle.names_means.specs.Gone.{finish_edit_names}
 use Rattle.run_means.specs.Count.{LimitFits, count_step_means}

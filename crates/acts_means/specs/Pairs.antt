@@ -25,7 +25,7 @@ use Rattle.held_names.specs.Named.{Named}
 use Rattle.names_means.specs.Kept.{Kept}
 use Rattle.annihilate_means.specs.Annihilates.{annihilate_means}
 use Rattle.erase_means.specs.Erases.{erase_means}
-use Rattle.commute_means.specs.Commutes.{commute_means}
+use Rattle.commute_means.proofs.Commutes.{commute_means}
 use Rattle.visit_means.specs.Tells.{Tells}
 use Rattle.visit_means.specs.Interact.{PairActs}
 use Rattle.acts_means.specs.Orderly.{pair_orderly}

@@ -13,8 +13,8 @@ use Rattle.stored.specs.Body.{paths_at, names_at, rules_at}
 use Rattle.ends.specs.Ends.{within, on}
 use Rattle.repeats.specs.declared.Item.TheVariants.{Path, Name}
 use Rattle.repeats.specs.Repeats.{differ}
-use Rattle.repeats_laws.specs.Names.{names_differ_lem}
-use Rattle.repeats_laws.specs.Many.{paths_differ_fit}
+use Rattle.repeats_laws.proofs.Names.{names_differ_lem}
+use Rattle.repeats_laws.proofs.Many.{paths_differ_fit}
 use Rattle.free_path.specs.FreePath.{free_number}
 use Rattle.rule_names.specs.RuleNames.{rules_name}
 use Rattle.free_laws.specs.Named.{free_named_lem}

@@ -32,19 +32,19 @@ use Rattle.commute_means.specs.Grid.{Rows}
 module _ (Named : ℕ → Name → Type 0) (x : ℕ → ℕ) (small : (k : ℕ) → x k ≤ 4294900000) (M : ℕ) (chain : List ℕ) (default : ℕ → ℕ) (l : List ℕ) (F Z : Port → Type 0)
     (b m c : ℕ) (low_b : b < 4096) (few_m : m ≤ 15) (few_c : c ≤ 15) (grid : List (List ℕ)) (rows : Rows (λ k. get_or chain k (default k)) grid m) where
   -- the number of the k-th new node
-  abbrev N : ℕ → ℕ
+  abbrev pub N : ℕ → ℕ
   N k = get_or chain k (default k)
 
   -- the j-th copy of a
-  abbrev cols : ℕ → ℕ
+  abbrev pub cols : ℕ → ℕ
   cols j = N (m + j)
 
   -- its aux port i, with that of the i-th copy of b
-  abbrev J : ℕ → ℕ → Edit
+  abbrev pub J : ℕ → ℕ → Edit
   J j i = Join (port (cols j) (1 + i)) (port (N i) (1 + j))
 
   -- n aux ports from i on are linked, then what follows
-  column_came : (n i j k : ℕ) → i + n ≤ m → j < 15 → cols j < 4096 → (g : Graph) (ws : List ℕ) (e : Engine) (U : Port → Type 0) (ds : List Edit) (f : List ℕ → Left Tried)
+  pub column_came : (n i j k : ℕ) → i + n ≤ m → j < 15 → cols j < 4096 → (g : Graph) (ws : List ℕ) (e : Engine) (U : Port → Type 0) (ds : List Edit) (f : List ℕ → Left Tried)
       → Stage Named x M chain l k g ws e → Safe F g U (map (J j) (from i n) ++ ds) Z
       → ((g' : Graph) (ws' : List ℕ) (e' : Engine) (U' : Port → Type 0) → Stage Named x M chain l k g' ws' e' → Safe F g' U' ds Z → Came Named l (f ws') (each edit ds e'))
       → Came Named l (f (link_column ws grid (number (port (cols j) (1 + i))) j i n)) (each edit (map (J j) (from i n) ++ ds) e)
@@ -59,40 +59,5 @@ module _ (Named : ℕ → Name → Type 0) (x : ℕ → ℕ) (small : (k : ℕ) 
 
   module _ (y : Node) (name : ℕ) (aux : Numbers.Port) (size_is : next m ≡ length y.ports) (below : y.net < M) (named : Named name y.name) (most : length y.ports ≤ 16) where
     -- what is copied
-    abbrev side : Side
+    abbrev pub side : Side
     side = record { net = record { 0 = y.net + 1 }; name = name; aux = aux; count = m }
-
-    -- copies of a for n aux ports of b from the j-th on
-    pub copy_across_came : (n j : ℕ) → j + n ≤ c → (g : Graph) (ws : List ℕ) (e : Engine) (U : Port → Type 0) → Stage Named x M chain l (m + j) g ws e
-        → Safe F g U (concat_map (column b m c N cols y) (from j n)) Z
-        → Came Named l (copy_across ws side grid (number (port b (1 + j))) j n) (each edit (concat_map (column b m c N cols y) (from j n)) e)
-    unfolding copy_across edit apply on_placed
-    copy_across_came zero j h g ws e U s t = (refl, s.means, s.dead)
-    copy_across_came (suc n) j h g ws e U s t =
-        go (edit (Insert (cols j) y) e) (subst (λ (k : ℕ). Inserts Named x M chain l (m + j) g (cols j) y (insert_node ws (y.net + 1) name k) (edit (Insert (cols j) y) e)) (sym size_is)
-        (stage_insert Named x small M chain default l (m + j) g ws e s F (cols j) y name t.0 refl below named most))
-        (λ g' ws' e' U' s' t'. copy_across_came n (suc j) (omega arith) g' ws' e' U' s' t')
-      where
-        new : Left Placed
-        new = insert_node ws (y.net + 1) name (next m)
-
-        rest : List Edit
-        rest = concat_map (column b m c N cols y) (from (suc j) n)
-
-        go : (r : Result Engine) → Inserts Named x M chain l (m + j) g (cols j) y new r
-            → ((g' : Graph) (ws' : List ℕ) (e' : Engine) (U' : Port → Type 0) → Stage Named x M chain l (m + suc j) g' ws' e' → Safe F g' U' rest Z
-            → Came Named l (copy_across ws' side grid (number (port b (1 + suc j))) (suc j) n) (each edit rest e'))
-            → Came Named l (on_placed {A = Left Tried} new.is
-            (λ i. copy_across (link_column (Words.link new.ws (number (port b (1 + j))) (principal i)) grid (next (principal i)) j 0 m) side grid (next (number (port b (1 + j)))) (j + 1) n)
-            (λ r. record { is = Refused r; ws = new.ws }))
-            (r >>= λ e'. each edit (map (J j) (up_to m) ++ rest) (link (port b (1 + j)) (port (cols j) 0) e'))
-        go (ok e') d ih =
-            let p = port b (1 + j) in
-            let q = port (cols j) 0 in
-            let next_j : j + 1 ≡ suc j = omega arith in
-            rw (d.0, number_first (cols j) d.2, number_principal (cols j) d.2, number_aux b j low_b (omega arith), next_j)
-            (column_came m 0 j (suc (m + j)) (omega arith) (omega arith) d.2 (join (fill g (cols j) y) p q) (Words.link new.ws (number p) (number q)) (link p q e') (With U p q) rest
-            (λ (w : List ℕ). copy_across w side grid (number (port b (1 + suc j))) (suc j) n)
-            (stage_join Named x small M chain default l (suc (m + j)) (fill g (cols j) y) new.ws e' d.1 U p q t.1.0) t.1.1
-            (λ g' ws' e'' U' s' t'. ih g' ws' e'' U' (subst (λ (k : ℕ). Stage Named x M chain l k g' ws' e'') (omega arith) s') t'))
-        go (refuse c) d ih = rw d refl

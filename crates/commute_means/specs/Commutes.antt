@@ -38,68 +38,32 @@ use Rattle.script_means.specs.Inserts.{Inserts, stage_insert}
 use Rattle.script_means.specs.Tries.{Came, Tries, Between, name_read, arity_read, unless_spent}
 use Rattle.erase_means.specs.Part.{good_fresh, pair, low_a, low_b, part_stage}
 use Rattle.commute_means.specs.Grid.{Rows, rows_none, rows_more}
-use Rattle.commute_means.specs.Across.{copy_across_came}
 
 module _ (Named : ℕ → Name → Type 0) (x : ℕ → ℕ) (small : (k : ℕ) → x k ≤ 4294900000) (M : ℕ) (chain : List ℕ) (default : ℕ → ℕ) (l : List ℕ) (F Z : Port → Type 0)
     (a b m c : ℕ) (low_a : a < 4096) (low_b : b < 4096) (few_m : m ≤ 15) (few_c : c ≤ 15)
     (y z : Node) (name_a name_b : ℕ) (aux_a : Numbers.Port) (size_y : next m ≡ length y.ports) (size_z : next c ≡ length z.ports) (below_y : y.net < M) (below_z : z.net < M)
     (named_y : Named name_a y.name) (named_z : Named name_b z.name) (most_y : length y.ports ≤ 16) (most_z : length z.ports ≤ 16) where
   -- the number of the k-th new node
-  abbrev N : ℕ → ℕ
+  abbrev pub N : ℕ → ℕ
   N k = get_or chain k (default k)
 
-  abbrev P : ℕ → Port
+  abbrev pub P : ℕ → Port
   P i = port a (1 + i)
 
   -- y copies a, z copies b
-  abbrev side_a : Side
+  abbrev pub side_a : Side
   side_a = record { net = record { 0 = y.net + 1 }; name = name_a; aux = aux_a; count = m }
 
-  abbrev side_b : Side
+  abbrev pub side_b : Side
   side_b = record { net = record { 0 = z.net + 1 }; name = name_b; aux = record { 0 = number (port b (1 + 0)) }; count = c }
 
   -- the copies of a, after those of b
-  abbrev columns : List Edit
+  abbrev pub columns : List Edit
   columns = concat_map (column b m c N (λ j. N (m + j)) y) (up_to c)
-
-  -- copies of b for n aux ports of a from the i-th on, then the copies of a
-  copy_both_came : (n i : ℕ) → i + n ≡ m → (grid : List (List ℕ)) → Rows N grid i → (g : Graph) (ws : List ℕ) (e : Engine) (U : Port → Type 0) → Stage Named x M chain l i g ws e
-      → Safe F g U (concat_map (hung P N z) (from i n) ++ columns) Z
-      → Came Named l (copy_both ws side_a side_b grid (number (P i)) i n) (each edit (concat_map (hung P N z) (from i n) ++ columns) e)
-  unfolding copy_both edit apply on_placed
-  copy_both_came zero i h grid rows g ws e U s t =
-      copy_across_came Named x small M chain default l F Z b m c low_b few_m few_c grid (subst (Rows N grid) (omega arith) rows) y name_a aux_a size_y below_y named_y most_y c 0 (omega arith) g ws e U
-      (subst (λ (k : ℕ). Stage Named x M chain l k g ws e) (omega arith) s) t
-  copy_both_came (suc n) i h grid rows g ws e U s t =
-      go (edit (Insert (N i) z) e) (subst (λ (k : ℕ). Inserts Named x M chain l i g (N i) z (insert_node ws (z.net + 1) name_b k) (edit (Insert (N i) z) e)) (sym size_z)
-      (stage_insert Named x small M chain default l i g ws e s F (N i) z name_b t.0 refl below_z named_z most_z))
-      (λ grid' r' ws' e' s'. copy_both_came n (suc i) (omega arith) grid' r' (join (fill g (N i) z) (P i) (port (N i) 0)) ws' e' (With U (P i) (port (N i) 0)) s' t.1.1)
-    where
-      made : Left Placed
-      made = insert_node ws (z.net + 1) name_b (next c)
-
-      rest : List Edit
-      rest = concat_map (hung P N z) (from (suc i) n) ++ columns
-
-      go : (r : Result Engine) → Inserts Named x M chain l i g (N i) z made r
-          → ((grid' : List (List ℕ)) → Rows N grid' (suc i) → (ws' : List ℕ) (e' : Engine) → Stage Named x M chain l (suc i) (join (fill g (N i) z) (P i) (port (N i) 0)) ws' e'
-          → Came Named l (copy_both ws' side_a side_b grid' (number (P (suc i))) (suc i) n) (each edit rest e'))
-          → Came Named l (on_placed {A = Left Tried} made.is
-          (λ j. copy_both (Words.link made.ws (number (P i)) (principal j)) side_a side_b (set grid i (row (next (principal j)))) (next (number (P i))) (i + 1) n)
-          (λ r. record { is = Refused r; ws = made.ws }))
-          (r >>= λ e'. each edit rest (link (P i) (port (N i) 0) e'))
-      go (ok e') d ih =
-          let next_i : i + 1 ≡ suc i = omega arith in
-          let more : Rows N (set grid i (row (next (number (port (N i) 0))))) (suc i)
-          = subst (λ (q : ℕ). Rows N (set grid i (row (next q))) (suc i)) (number_principal (N i) d.2) (rows_more N grid i (omega arith) d.2 rows) in
-          rw (d.0, number_principal (N i) d.2, number_aux a i low_a (omega arith), next_i)
-          (ih (set grid i (row (next (number (port (N i) 0))))) more (Words.link made.ws (number (P i)) (number (port (N i) 0))) (link (P i) (port (N i) 0) e')
-          (stage_join Named x small M chain default l (suc i) (fill g (N i) z) made.ws e' d.1 U (P i) (port (N i) 0) t.1.0))
-      go (refuse c) d ih = rw d refl
 
 module _ (Named : ℕ → Name → Type 0) (x : ℕ → ℕ) (small : (k : ℕ) → x k ≤ 4294900000) (ws : List ℕ) (e : Engine) (t : Between Named x ws e) where
   -- a node's aux ports are at most fifteen
-  aux_count_is : (n : ℕ) → filled (graph_of e) n ≡ true → 0 < arity (graph_of e) n → aux_count ws n ≡ arity (graph_of e) n - 1
+  pub aux_count_is : (n : ℕ) → filled (graph_of e) n ≡ true → 0 < arity (graph_of e) n → aux_count ws n ≡ arity (graph_of e) n - 1
   unfolding aux_count
   aux_count_is n h p =
       let r = arity_read Named ws e t.means n h in
@@ -107,30 +71,5 @@ module _ (Named : ℕ → Name → Type 0) (x : ℕ → ℕ) (small : (k : ℕ) 
       sym (lt_no 15 (less (Word.arity ws n)) 15 (less (Word.arity ws n)) (omega arith) refl) ∙ (omega arith)
 
   module _ (a b : ℕ) (met : across (graph_of e) (port a 0) ≡ some (port b 0)) where
-    abbrev g : Graph
+    abbrev pub g : Graph
     g = graph_of e
-
-    -- commute does on the words what its script does; the copies' net is the pair's
-    pub commute_means : (net : ℕ) → net ≡ (at (graph_of e) a).net + 1 → Tries Named ws e (commute ws net a b) (commute_script (fresh e) (graph_of e) a b)
-    unfolding commute side_of commute_script hang fresh edit apply new
-    commute_means net is =
-        let p = pair Named x small ws e t a b met in
-        let la = low_a Named x small ws e t a b met in
-        let lb = low_b Named x small ws e t a b met in
-        let f = good_fresh x e t.good in
-        let few_a = t.means.nodes.few a in
-        let few_b = t.means.nodes.few b in
-        let pa = p.ports_a in
-        let pb = p.ports_b in
-        let F = Law.Ends (fresh e) g t.wired f a b met in
-        let net_a = net_inside_lem Named ws e t.means x t.good a p.filled_a in
-        let size_y = length-replicate {A = Option Port} (arity g a) none in
-        let size_z = length-replicate {A = Option Port} (arity g b) none in
-        rw (is, aux_count_is a p.filled_a pa, aux_count_is b p.filled_b pb, number_first b lb, number_first a la)
-        (unless_spent Named ws e t.means t.good.stepped (a ∷ b ∷ []) _ _
-        (copy_both_came Named x small (length e.nets) e.slots.chain (λ i. length g + i) (a ∷ b ∷ []) F F a b (arity g a - 1) (arity g b - 1) la lb (omega arith) (omega arith)
-        (new (at g a).net (name_of g a) (arity g a)) (new (at g a).net (name_of g b) (arity g b)) (Word.name ws a) (Word.name ws b) (record { 0 = number (port a (1 + 0)) })
-        (omega arith) (omega arith) net_a net_a
-        (name_read Named ws e t.means a p.filled_a) (name_read Named ws e t.means b p.filled_b) (omega arith) (omega arith)
-        (arity g a - 1) 0 (omega arith) blank (rows_none _) (cut g (port a 0) (port b 0)) (part ws a b) (with_graph (cut g (port a 0) (port b 0)) e) (With (λ _. ⊥) (port a 0) (port b 0))
-        (part_stage Named x small ws e t a b met) (LawProofs.commuted_tidy (fresh e) g t.wired f a b met).safe.1))

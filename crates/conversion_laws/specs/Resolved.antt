@@ -17,7 +17,7 @@ use Rattle.net_file_laws.specs.Bytes.{Bytes}
 use Rattle.net_file_laws.specs.Exact.{Each}
 use Rattle.net_file_laws.specs.Flat.{PairFits, NodeFits, FlatNetFits}
 use Rattle.net_file_laws.proofs.RoundTrip.{flat_write_read, flat_read_write}
-use Rattle.size_laws.specs.Files.{flat_fits}
+use Rattle.size_laws.proofs.Files.{flat_fits}
 use Rattle.list_laws.specs.Tests.{both, both_are, either}
 use Rattle.list_laws.specs.Lists.{count_none}
 use Rattle.conversions.specs.Links.{canonical, links_of}

@@ -17,7 +17,7 @@ use Rattle.net_file_laws.specs.Trees.{TreeFits, LinkFits, TreeNetFits, listed_tr
 use Rattle.net_file_laws.specs.Body.{TablesFit}
 use Rattle.net_file_laws.specs.RoundTrip.{FileFits, Spells}
 use Rattle.net_file_laws.proofs.RoundTrip.{flat_write_read, tree_read_write}
-use Rattle.size_laws.specs.Trees.{tree_fits}
+use Rattle.size_laws.proofs.Trees.{tree_fits}
 use Rattle.list_laws.specs.Tests.{both, both_are}
 use Rattle.conversions.specs.Links.{Links, get, canonical, links_of}
 use Rattle.conversions.specs.Convert.{to_tree}

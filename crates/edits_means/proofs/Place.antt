@@ -31,7 +31,8 @@ use Rattle.means.specs.Means.{Header, Marks, Means}
 use Rattle.means.specs.Frame.{with_chain}
 use Rattle.graph_means.specs.Marks.{CanMark, mark_dirty_means}
 use Rattle.pools_means.specs.Slots.{take_slot_means, take_slot_none}
-use Rattle.lists_means.specs.Push.{push_node_means, push_node_full}
+use Rattle.lists_means.specs.Push.{push_node_full}
+use Rattle.lists_means.proofs.Push.{push_node_means}
 use Rattle.edits_means.specs.Fill.{fill_means}
 use Rattle.edits_means.specs.Place.{CanPlace, placed_means, placed_full, Agrees, CanInsert, there}
 

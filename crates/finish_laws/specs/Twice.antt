@@ -28,20 +28,20 @@ use Rattle.finish_laws.specs.Drawn.{others, written, stands, Drawn, keep_in, in_
 
 -- ---- how many pass a test
 
-count_append : {A : Type 0} (f : A → Bool) (xs ys : List A) → count f (xs ++ ys) ≡ count f xs + count f ys
+pub count_append : {A : Type 0} (f : A → Bool) (xs ys : List A) → count f (xs ++ ys) ≡ count f xs + count f ys
 count_append f [] ys = omega arith
 count_append f (x ∷ xs) ys = let h = count_append f xs ys in omega arith
 
-count_map : {A B : Type 0} (f : B → Bool) (h : A → B) (xs : List A) → count f (map h xs) ≡ count (λ x. f (h x)) xs
+pub count_map : {A B : Type 0} (f : B → Bool) (h : A → B) (xs : List A) → count f (map h xs) ≡ count (λ x. f (h x)) xs
 count_map f h [] = refl
 count_map f h (x ∷ xs) = ap (λ (n : ℕ). bit (f (h x)) + n) (count_map f h xs)
 
-count_same : {A : Type 0} (f h : A → Bool) (xs : List A) → ((x : A) → Memᴰ x xs → f x ≡ h x) → count f xs ≡ count h xs
+pub count_same : {A : Type 0} (f h : A → Bool) (xs : List A) → ((x : A) → Memᴰ x xs → f x ≡ h x) → count f xs ≡ count h xs
 count_same f h [] e = refl
 count_same f h (x ∷ xs) e = λ i. bit (e x (Memᴰ.head refl) i) + count_same f h xs (λ y m. e y (Memᴰ.tail m)) i
 
 -- where no element passes both
-count_either : {A : Type 0} (f h : A → Bool) (xs : List A) → ((x : A) → f x ≡ true → h x ≡ false) → count (λ x. f x || h x) xs ≡ count f xs + count h xs
+pub count_either : {A : Type 0} (f h : A → Bool) (xs : List A) → ((x : A) → f x ≡ true → h x ≡ false) → count (λ x. f x || h x) xs ≡ count f xs + count h xs
 count_either f h [] e = refl
 count_either f h (x ∷ xs) e = go (f x) refl (h x) refl (count_either f h xs e)
   where
@@ -51,17 +51,17 @@ count_either f h (x ∷ xs) e = go (f x) refl (h x) refl (count_either f h xs e)
     go false p true q r = omega arith
     go false p false q r = omega arith
 
-map_append : {A B : Type 0} (f : A → B) (xs ys : List A) → map f (xs ++ ys) ≡ map f xs ++ map f ys
+pub map_append : {A B : Type 0} (f : A → B) (xs ys : List A) → map f (xs ++ ys) ≡ map f xs ++ map f ys
 map_append f [] ys = refl
 map_append f (x ∷ xs) ys = ap (λ l. f x ∷ l) (map_append f xs ys)
 
-all_in : {A : Type 0} (f : A → Bool) (xs : List A) → ((x : A) → Memᴰ x xs → f x ≡ true) → all f xs ≡ true
+pub all_in : {A : Type 0} (f : A → Bool) (xs : List A) → ((x : A) → Memᴰ x xs → f x ≡ true) → all f xs ≡ true
 all_in f [] h = refl
 all_in f (x ∷ xs) h = both_are (f x) (all f xs) (h x (Memᴰ.head refl)) (all_in f xs (λ y m. h y (Memᴰ.tail m)))
 
 -- ---- a port among the ports of nodes
 
-row_none : (p : Port) (n a i : ℕ) → (p.node ≢ n) ⊎ (p.index < i) → count (same_port p) (map (port n) (from i a)) ≡ 0
+pub row_none : (p : Port) (n a i : ℕ) → (p.node ≢ n) ⊎ (p.index < i) → count (same_port p) (map (port n) (from i a)) ≡ 0
 row_none p n zero i h = refl
 row_none p n (suc a) i h = go (same_port p (port n i)) refl (row_none p n a (suc i) (later h))
   where
@@ -77,7 +77,7 @@ row_none p n (suc a) i h = go (same_port p (port n i)) refl (row_none p n a (suc
     go true e r = absurd (here h (same_port_true p (port n i) e))
     go false e r = omega arith
 
-row_once : (p : Port) (n a i : ℕ) → p.node ≡ n → i ≤ p.index → p.index < i + a → count (same_port p) (map (port n) (from i a)) ≡ 1
+pub row_once : (p : Port) (n a i : ℕ) → p.node ≡ n → i ≤ p.index → p.index < i + a → count (same_port p) (map (port n) (from i a)) ≡ 1
 row_once p n zero i e l u = absurd (omega arith)
 row_once p n (suc a) i e l u = go (ℕ_discrete p.index i) (row_once p n a (suc i) e)
   where
@@ -92,13 +92,13 @@ row_once p n (suc a) i e l u = go (ℕ_discrete p.index i) (row_once p n a (suc 
         other true q = absurd (s (ap (λ (r : Port). r.index) (same_port_true p (port n i) q)))
         other false q = q
 
-drop_row : {A : Type 0} (h : ℕ → A) (a : ℕ) → drop 2 (map h (from 0 a)) ≡ map h (from 2 (a - 2))
+pub drop_row : {A : Type 0} (h : ℕ → A) (a : ℕ) → drop 2 (map h (from 0 a)) ≡ map h (from 2 (a - 2))
 drop_row h zero = refl
 drop_row h (suc zero) = refl
 drop_row h (suc (suc a)) = ap (λ (n : ℕ). map h (from 2 n)) (let z : a ≡ suc (suc a) - 2 = omega arith in z)
 
 module _ (g : Graph) where
-  nodes_none : (p : Port) (ns : List ℕ) → ¬ Memᴰ p.node ns → count (same_port p) (concat_map (ports g) ns) ≡ 0
+  pub nodes_none : (p : Port) (ns : List ℕ) → ¬ Memᴰ p.node ns → count (same_port p) (concat_map (ports g) ns) ≡ 0
   unfolding ports
   nodes_none p [] h = refl
   nodes_none p (n ∷ ns) h =
@@ -107,7 +107,7 @@ module _ (g : Graph) where
       let c = nodes_none p ns (λ m. h (Memᴰ.tail m)) in
       omega arith
 
-  nodes_once : (p : Port) (ns : List ℕ) → distinct eqb ns ≡ true → Memᴰ p.node ns → Real g p → count (same_port p) (concat_map (ports g) ns) ≡ 1
+  pub nodes_once : (p : Port) (ns : List ℕ) → distinct eqb ns ≡ true → Memᴰ p.node ns → Real g p → count (same_port p) (concat_map (ports g) ns) ≡ 1
   unfolding ports
   nodes_once p [] d m l = absurd (Memᴰ.not-nil m)
   nodes_once p (n ∷ ns) d m l = go (ℕ_discrete p.node n) (Memᴰ.cases_cons m) (λ k. nodes_once p ns (both (not (any (eqb n) ns)) (distinct eqb ns) d).1 k l)
@@ -127,7 +127,7 @@ module _ (g : Graph) where
           let c = r k in
           omega (arith, a)
 
-keep_once : (f : ℕ → Bool) (xs : List ℕ) → distinct eqb xs ≡ true → distinct eqb (keep f xs) ≡ true
+pub keep_once : (f : ℕ → Bool) (xs : List ℕ) → distinct eqb xs ≡ true → distinct eqb (keep f xs) ≡ true
 keep_once f [] d = refl
 keep_once f (x ∷ xs) d = go (f x) (keep_once f xs (both (not (any (eqb x) xs)) (distinct eqb xs) d).1)
   where
@@ -139,27 +139,27 @@ keep_once f (x ∷ xs) d = go (f x) (keep_once f xs (both (not (any (eqb x) xs))
 
 module _ (path k : ℕ) (g : Graph) (w : WellWired g) (h : Home) (node : FreeNode path g k h) (ids : List ℕ) (nodes : NodesOf g k ids) where
   -- the ports that have a place: all but the free node's own wire
-  places_of : List Port
+  pub places_of : List Port
   places_of = drop 2 (ports g h.free) ++ concat_map (ports g) (others h.free ids)
 
-  record Placed (p : Port) : Type 0 where
-    real : Real g p
-    in_net : Memᴰ p.node ids
-    other : p.node ≡ h.free → 2 ≤ p.index
+  pub record Placed (p : Port) : Type 0 where
+    pub real : Real g p
+    pub in_net : Memᴰ p.node ids
+    pub other : p.node ≡ h.free → 2 ≤ p.index
 
   -- the free ports as a row
-  free_row : drop 2 (ports g h.free) ≡ map (port h.free) (from 2 (arity g h.free - 2))
+  pub free_row : drop 2 (ports g h.free) ≡ map (port h.free) (from 2 (arity g h.free - 2))
   unfolding ports
   free_row = drop_row (port h.free) (arity g h.free)
 
-  not_free : (n : ℕ) → n ≢ h.free → not (eqb n h.free) ≡ true
+  pub not_free : (n : ℕ) → n ≢ h.free → not (eqb n h.free) ≡ true
   not_free n d = ap not (ne_eqb n h.free d)
 
-  is_not : (n : ℕ) → not (eqb n h.free) ≡ true → n ≢ h.free
+  pub is_not : (n : ℕ) → not (eqb n h.free) ≡ true → n ≢ h.free
   is_not n e s = false≢true (sym (ap not (eq-eqb n h.free s)) ∙ e)
 
   -- each of them has one place
-  placed_once : (p : Port) → Placed p → count (same_port p) places_of ≡ 1
+  pub placed_once : (p : Port) → Placed p → count (same_port p) places_of ≡ 1
   unfolding places_of
   placed_once p a = go (ℕ_discrete p.node h.free)
     where
@@ -181,10 +181,10 @@ module _ (path k : ℕ) (g : Graph) (w : WellWired g) (h : Home) (node : FreeNod
           let c = nodes_once g p (others h.free ids) (keep_once (λ n. not (eqb n h.free)) ids nodes.once) (in_keep (λ n. not (eqb n h.free)) ids p.node a.in_net (not_free p.node e)) a.real in
           omega (arith, sum, row)
 
-  free_in : Memᴰ h.free ids
+  pub free_in : Memᴰ h.free ids
   free_in = nodes.full h.free node.held
 
-  placed : (p : Port) → Memᴰ p places_of → Placed p
+  pub placed : (p : Port) → Memᴰ p places_of → Placed p
   unfolding places_of
   placed p m = go (Memᴰ.append_cases (drop 2 (ports g h.free)) m)
     where
@@ -206,7 +206,7 @@ module _ (path k : ℕ) (g : Graph) (w : WellWired g) (h : Home) (node : FreeNod
           record { real = y.1; in_net = x.0; other = λ e. absurd (is_not p.node x.1 e) }
 
   -- so has the port across
-  across_placed : (p : Port) → Placed p → Placed (follow g p)
+  pub across_placed : (p : Port) → Placed p → Placed (follow g p)
   across_placed p a = record { real = follow_real g w p a.real; in_net = nodes.full (follow g p).node inside; other = other }
     where
       net_of : (n : ℕ) → holds g k n ≡ true → (at g n).net ≡ k
@@ -258,76 +258,17 @@ module _ (path k : ℕ) (g : Graph) (w : WellWired g) (h : Home) (node : FreeNod
   -- ---- well wired
 
   module _ (t : FlatNet) (d : Drawn g ids h.free t) where
-    concat_map_lem : (ns : List ℕ) → concat_map (λ (x : Name × List ℕ). x.1) (map (stands g d.wire) ns) ≡ map d.wire (concat_map (ports g) ns)
+    pub concat_map_lem : (ns : List ℕ) → concat_map (λ (x : Name × List ℕ). x.1) (map (stands g d.wire) ns) ≡ map d.wire (concat_map (ports g) ns)
     concat_map_lem [] = refl
     concat_map_lem (n ∷ ns) = ap (λ (l : List ℕ). map d.wire (ports g n) ++ l) (concat_map_lem ns) ∙ sym (map_append d.wire (ports g n) (concat_map (ports g) ns))
 
-    concat_written : (xs : List FlatNode) → concat_map (λ (m : FlatNode). m.pri ∷ m.aux) xs ≡ concat_map (λ (x : Name × List ℕ). x.1) (map written xs)
+    pub concat_written : (xs : List FlatNode) → concat_map (λ (m : FlatNode). m.pri ∷ m.aux) xs ≡ concat_map (λ (x : Name × List ℕ). x.1) (map written xs)
     concat_written [] = refl
     concat_written (x ∷ xs) = ap (λ (l : List ℕ). (x.pri ∷ x.aux) ++ l) (concat_written xs)
 
     -- the wires at the places
-    places_are : places t ≡ map d.wire places_of
+    pub places_are : places t ≡ map d.wire places_of
     unfolding places places_of
     places_are =
         (λ i. d.free_wires i ++ (concat_written t.nodes ∙ ap (concat_map (λ (x : Name × List ℕ). x.1)) d.nodes ∙ concat_map_lem (others h.free ids)) i)
         ∙ sym (map_append d.wire (drop 2 (ports g h.free)) (concat_map (ports g) (others h.free ids)))
-
-    -- a wire occurs at its two ports and at no other
-    twice : (p : Port) → Placed p → occurs (d.wire p) (places t) ≡ 2
-    unfolding occurs
-    twice p a =
-        ap (count (eqb (d.wire p))) places_are ∙ count_map (eqb (d.wire p)) d.wire places_of
-        ∙ count_same (λ q. eqb (d.wire p) (d.wire q)) (λ q. same_port p q || same_port (follow g p) q) places_of (λ q m. same_test (eqb (d.wire p) (d.wire q)) (same_port p q || same_port (follow g p) q) (to q (placed q m)) (from' q (placed q m)))
-        ∙ count_either (same_port p) (same_port (follow g p)) places_of apart
-        ∙ (let x = placed_once p a in let y = placed_once (follow g p) (across_placed p a) in omega arith)
-      where
-        met : across g p ≡ some (follow g p)
-        met = follow_across g w p a.real
-
-        to : (q : Port) → Placed q → eqb (d.wire p) (d.wire q) ≡ true → (same_port p q || same_port (follow g p) q) ≡ true
-        to q b e = go ((d.same p q (a.in_net, a.real) (b.in_net, b.real)).0 (eqb-true (d.wire p) (d.wire q) e))
-          where
-            ors : (t : Bool) → same_port (follow g p) q ≡ true → (t || same_port (follow g p) q) ≡ true
-            ors true z = refl
-            ors false z = z
-
-            go : (p ≡ q) ⊎ (across g p ≡ some q) → (same_port p q || same_port (follow g p) q) ≡ true
-            go (inl s) = ap (λ (t : Bool). t || same_port (follow g p) q) (ap (same_port p) (sym s) ∙ same_port_self p)
-            go (inr s) = ors (same_port p q) (ap (λ (x : Port). same_port x q) (across_follow g w p q s) ∙ same_port_self q)
-
-        from' : (q : Port) → Placed q → (same_port p q || same_port (follow g p) q) ≡ true → eqb (d.wire p) (d.wire q) ≡ true
-        from' q b e = eq-eqb (d.wire p) (d.wire q) ((d.same p q (a.in_net, a.real) (b.in_net, b.real)).1 (go (same_port p q) refl e))
-          where
-            go : (t : Bool) → same_port p q ≡ t → (t || same_port (follow g p) q) ≡ true → (p ≡ q) ⊎ (across g p ≡ some q)
-            go true s z = inl (same_port_true p q s)
-            go false s z = inr (met ∙ ap {B = Option Port} some (same_port_true (follow g p) q z))
-
-        apart : (q : Port) → same_port p q ≡ true → same_port (follow g p) q ≡ false
-        apart q e = go (same_port (follow g p) q) refl
-          where
-            go : (t : Bool) → same_port (follow g p) q ≡ t → same_port (follow g p) q ≡ false
-            go true s = absurd (w.wired.apart p (met ∙ ap {B = Option Port} some (same_port_true (follow g p) q s ∙ sym (same_port_true p q e))))
-            go false s = s
-
-    -- `wired`
-    pub drawn_wired : flat_wired t ≡ true
-    unfolding flat_wired wire_wired pair_wires
-    drawn_wired = both_are (all (pair_wired (places t)) t.pairs) (all (wire_wired (places t) t.pairs) (places t))
-        (ap (all (pair_wired (places t))) d.pairs)
-        (all_in (wire_wired (places t) t.pairs) (places t) (λ v m. one v (map_of places_of v (subst (Memᴰ v) places_are m))))
-      where
-        map_of : (ps : List Port) (v : ℕ) → Memᴰ v (map d.wire ps) → (p : Port) × Memᴰ p ps × (v ≡ d.wire p)
-        map_of [] v m = absurd (Memᴰ.not-nil m)
-        map_of (p ∷ ps) v m = go (Memᴰ.cases_cons m) (map_of ps v)
-          where
-            go : (v ≡ d.wire p) ⊎ Memᴰ v (map d.wire ps) → (Memᴰ v (map d.wire ps) → (q : Port) × Memᴰ q ps × (v ≡ d.wire q)) → (q : Port) × Memᴰ q (p ∷ ps) × (v ≡ d.wire q)
-            go (inl e) r = (p, Memᴰ.head refl, e)
-            go (inr k) r = let y = r k in (y.0, Memᴰ.tail y.1, y.2)
-
-        one : (v : ℕ) → (p : Port) × Memᴰ p places_of × (v ≡ d.wire p) → wire_wired (places t) t.pairs v ≡ true
-        one v (p, m, e) = ors (any (eqb v) (pair_wires t.pairs)) (eq-eqb (occurs v (places t)) 2 (ap (λ (u : ℕ). occurs u (places t)) e ∙ twice p (placed p m)))
-          where
-            ors : (s : Bool) → eqb (occurs v (places t)) 2 ≡ true → (s || eqb (occurs v (places t)) 2) ≡ true
-            ors true z = refl
-            ors false z = z

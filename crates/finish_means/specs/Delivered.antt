@@ -22,8 +22,9 @@ use Rattle.net_file_laws.specs.Flat.{FlatNetFits}
 use Rattle.net_file_laws.specs.Body.{TablesFit}
 use Rattle.net_file_laws.specs.RoundTrip.{FileFits, Spells}
 use Rattle.net_file_laws.proofs.RoundTrip.{flat_write_read}
-use Rattle.size_laws.specs.Parts.{counted_size, flat_net_size}
-use Rattle.size_laws.specs.Files.{body_size}
+use Rattle.size_laws.specs.Parts.{counted_size}
+use Rattle.size_laws.proofs.Parts.{flat_net_size}
+use Rattle.size_laws.proofs.Files.{body_size}
 use Rattle.put.specs.Laws.{put_in_yes}
 use Rattle.store.specs.Store.{store}
 use Rattle.definitions.specs.Nets.{holds}

@@ -15,7 +15,8 @@ use Rattle.conversions.specs.Links.{get}
 use Rattle.wire_blocks.specs.Laws.{wires_from, Less}
 use Rattle.wire_links.specs.Table.{extent, looks_below}
 use Rattle.wire_links_laws.specs.Means.{code, Means}
-use Rattle.wire_links_laws.specs.Top.{Topped, topped_linked, extent_under, looks_less}
+use Rattle.wire_links_laws.specs.Top.{Topped, extent_under, looks_less}
+use Rattle.wire_links_laws.proofs.Top.{topped_linked}
 use Rattle.embed.specs.declared.Growth.{Growth}
 use Rattle.embed_nets.specs.Nets.{hung, left_walked, link_hung, links_hung, link_walked, net_hung}
 use Rattle.flat_nets.specs.declared.Spot.{Spot}

@@ -10,7 +10,7 @@ use Rattle.definitions.specs.Books.{link}
 use Rattle.join_laws.specs.Ports.{Real}
 use Rattle.means.specs.Means.{number, Header, Means}
 use Rattle.means.specs.Frame.{real_inside}
-use Rattle.graph_means.specs.Wires.{CanLink, link_means}
+use Rattle.graph_means.specs.Wires.{CanLink}
 
 -- the next port of the same node
 abbrev pub after : Port → Port
@@ -26,13 +26,5 @@ abbrev pub CanLinkAll : ℕ → Port → Port → Engine → Type 0
 CanLinkAll zero a b e = Unit {0}
 CanLinkAll (suc k) a b e = CanLink e a b × CanLinkAll k (after a) (after b) (link a b e)
 
-next_number : (Named : ℕ → Name → Type 0) (ws : List ℕ) (e : Engine) → Means Named ws e → (p : Port) → Real (graph_of e) p → next (number p) ≡ number (after p)
+pub next_number : (Named : ℕ → Name → Type 0) (ws : List ℕ) (e : Engine) → Means Named ws e → (p : Port) → Real (graph_of e) p → next (number p) ≡ number (after p)
 next_number Named ws e m p r = let i = real_inside m.nodes p r in let b = m.header.few_nodes in omega arith
-
-pub link_all_means : (Named : ℕ → Name → Type 0) (k : ℕ) (ws : List ℕ) (e : Engine) → Means Named ws e → (a b : Port) → CanLinkAll k a b e
-    → Means Named (Words.link_all ws (number a) (number b) k) (link_all k a b e)
-unfolding Words.link_all
-link_all_means Named zero ws e m a b c = m
-link_all_means Named (suc k) ws e m a b c =
-    rw (next_number Named ws e m a c.0.real_a, next_number Named ws e m b c.0.real_b)
-    (link_all_means Named k (Words.link ws (number a) (number b)) (link a b e) (link_means Named ws e m a b c.0) (after a) (after b) c.1)

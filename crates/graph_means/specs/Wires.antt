@@ -105,32 +105,32 @@ pub record CanLink (e : Engine) (a b : Port) : Type 0 where
 
 module _ (Named : ℕ → Name → Type 0) (ws : List ℕ) (e : Engine) (m : Means Named ws e) (a b : Port) (c : CanLink e a b) where
   -- the two ends
-  a' : Port
+  unfoldable pub a' : Port
   a' = follow (graph_of e) a
 
-  b' : Port
+  unfoldable pub b' : Port
   b' = follow (graph_of e) b
 
-  real_a' : Real (graph_of e) a'
+  pub real_a' : Real (graph_of e) a'
   unfolding a'
   real_a' = follow_real (graph_of e) c.wired a c.real_a
 
-  real_b' : Real (graph_of e) b'
+  pub real_b' : Real (graph_of e) b'
   unfolding b'
   real_b' = follow_real (graph_of e) c.wired b c.real_b
 
-  index : (p : Port) → Real (graph_of e) p → p.index < 16
+  pub index : (p : Port) → Real (graph_of e) p → p.index < 16
   index p r = (real_inside m.nodes p r).1
 
   -- the words of the open link
-  wired_words : List ℕ
+  unfoldable pub wired_words : List ℕ
   wired_words = set_across (set_across (Words.remove_wire ws (number a) (number b)) (number a') (number b')) (number b') (number a')
 
   -- the two arguments are holes, the two ends across from each other
-  open_graph : Graph
+  pub open_graph : Graph
   open_graph = wire (wire (cut (graph_of e) a b) a' (some b')) b' (some a')
 
-  wired_means : Means Named wired_words (with_graph open_graph e)
+  pub wired_means : Means Named wired_words (with_graph open_graph e)
   unfolding wired_words open_graph cut with_graph with_slots
   wired_means =
       let g1 = cut (graph_of e) a b in
@@ -142,53 +142,12 @@ module _ (Named : ℕ → Name → Type 0) (ws : List ℕ) (e : Engine) (m : Mea
       let m2 : Means Named w2 (with_graph g2 e) = wire_means Named w1 (with_graph g1 e) m1 a' (some b') (r1 a' real_a') in
       wire_means Named w2 (with_graph g2 e) m2 b' (some a') (real_wire g1 a' (some b') b' (r1 b' real_b'))
 
-  -- both ends' nodes become dirty
-  open_means : a' ≢ b → ends (graph_of e) a b ≡ some (a', b') → join (graph_of e) a b ≡ open_graph
-      → Means Named (Words.join (Words.remove_wire ws (number a) (number b)) (number a') (number b')) (link a b e)
-  unfolding Words.join link mark_ends a' b' wired_words with_graph with_slots
-  open_means n en ej =
-      let g : Graph = join (graph_of e) a b in
-      let e1 = with_graph g e in
-      let m1 : Means Named wired_words e1 = rw ej wired_means in
-      let f : (p : Port) → Real (graph_of e) p → Nets.filled g p.node ≡ true
-      = λ p r. filled_same (graph_of e) g p.node (frame_join (graph_of e) a b p.node) ∙ real_filled (graph_of e) p r in
-      let m2 : Means Named (Words.mark_dirty_words wired_words a'.node) (mark_dirty a'.node e1) = mark_dirty_means Named wired_words e1 m1 a'.node (f a' real_a') (c.first n) in
-      let m3 : Means Named (Words.mark_dirty_words (Words.mark_dirty_words wired_words a'.node) b'.node) (mark_dirty b'.node (mark_dirty a'.node e1))
-      = mark_dirty_means Named (Words.mark_dirty_words wired_words a'.node) (mark_dirty a'.node e1) m2 b'.node (rw (still_graph (mark_still a'.node e1)) (f b' real_b')) (c.second n) in
-      rw (number_node a' (index a' real_a'), number_node b' (index b' real_b'), en) m3
-
   -- a circle vanishes
-  closed : a' ≡ b → link a b e ≡ with_graph (cut (graph_of e) a b) e
+  pub closed : a' ≡ b → link a b e ≡ with_graph (cut (graph_of e) a b) e
   unfolding link mark_ends a'
   closed d = join_cases (λ (h : Graph). mark_ends (ends (graph_of e) a b) (with_graph h e) ≡ with_graph (cut (graph_of e) a b) e) (graph_of e) a b
       (λ en s. rw en refl) (λ en n. absurd (n d))
 
-  opened : a' ≢ b → (ends (graph_of e) a b ≡ some (a', b')) × (join (graph_of e) a b ≡ open_graph)
+  pub opened : a' ≢ b → (ends (graph_of e) a b ≡ some (a', b')) × (join (graph_of e) a b ≡ open_graph)
   unfolding a' b' open_graph
   opened n = join_cases (λ (h : Graph). (ends (graph_of e) a b ≡ some (a', b')) × (h ≡ open_graph)) (graph_of e) a b (λ en s. absurd (n s)) (λ en s. (en, refl))
-
-  -- "Linking takes the port now across from an argument"
-  pub link_means : Means Named (Words.link ws (number a) (number b)) (link a b e)
-  unfolding Words.link Words.remove_wire a' b'
-  link_means = go (port_discrete a' b)
-    where
-      w : List ℕ
-      w = set_across ws (number a) (number a)
-
-      first_is : Layout.across ws (number a) ≡ number a'
-      first_is = m.nodes.port a c.real_a
-
-      apart : number b ≢ number a
-      apart d = c.differ (sym (number_same b a (index b c.real_b) (index a c.real_a) d))
-
-      second_is : Layout.across w (number b) ≡ number b'
-      second_is = get_or-set_other ws (5184 + number a) (5184 + number b) (number a) 0 (let d = apart in omega arith) ∙ m.nodes.port b c.real_b
-
-      go : Dec (a' ≡ b) → Means Named (if_eq (Layout.across ws (number a)) (number b) (set_across w (number b) (number b))
-          (Words.join (set_across w (number b) (number b)) (Layout.across ws (number a)) (Layout.across w (number b)))) (link a b e)
-      go (yes d) =
-          subst (λ (y : List ℕ). Means Named y (link a b e)) (eq_yes _ _ _ _ (first_is ∙ ap number d) refl) (rw (closed d) (cut_means Named ws e m a b c.real_a c.real_b))
-      go (no n) =
-          subst (λ (y : List ℕ). Means Named y (link a b e))
-          (eq_no _ _ _ _ (λ z. n (number_same a' b (index a' real_a') (index b c.real_b) (sym first_is ∙ z))) refl)
-          (rw (first_is, second_is) (open_means n (opened n).0 (opened n).1))

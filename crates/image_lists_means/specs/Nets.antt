@@ -40,21 +40,21 @@ abbrev pub under : ℕ → Option ℕ → Bool
 under k none = false
 under k (some j) = ltb j k
 
-under_live : (k : ℕ) (o : Option ℕ) → under k o ≡ true → is_of k o ≡ false
+pub under_live : (k : ℕ) (o : Option ℕ) → under k o ≡ true → is_of k o ≡ false
 under_live k none h = refl
 under_live k (some j) h = let l = ltb-true j k h in ne_eqb j k (omega arith)
 
-under_more : (k : ℕ) (o : Option ℕ) → (is_of k o ≡ true) ⊎ (under k o ≡ true) → under (suc k) o ≡ true
+pub under_more : (k : ℕ) (o : Option ℕ) → (is_of k o ≡ true) ⊎ (under k o ≡ true) → under (suc k) o ≡ true
 under_more k none (inl h) = absurd (false≢true h)
 under_more k none (inr h) = absurd (false≢true h)
 under_more k (some j) (inl h) = let e = eqb-true j k h in lt-ltb j (suc k) (omega arith)
 under_more k (some j) (inr h) = let l = ltb-true j k h in lt-ltb j (suc k) (omega arith)
 
-under_less : (k : ℕ) (o : Option ℕ) → under (suc k) o ≡ true → (is_of k o ≡ true) ⊎ (under k o ≡ true)
+pub under_less : (k : ℕ) (o : Option ℕ) → under (suc k) o ≡ true → (is_of k o ≡ true) ⊎ (under k o ≡ true)
 under_less k none h = absurd (false≢true h)
 under_less k (some j) h = let l = ltb-true j (suc k) h in elim (ℕ_discrete j k) [ yes e ↦ inl (eq-eqb j k e) | no d ↦ inr (lt-ltb j k (omega arith)) ]
 
-under_none : (o : Option ℕ) → under 0 o ≡ false
+pub under_none : (o : Option ℕ) → under 0 o ≡ false
 under_none none = refl
 under_none (some j) = le-ltb j 0 (omega arith)
 
@@ -74,18 +74,18 @@ module _ (Named : ℕ → Name → Type 0) (ws : List ℕ) (e : Engine) (m : Mea
   few_entries = let a = m.used.entries in let b = m.header.few_entries in omega arith
 
   module _ (k : ℕ) (h : k < length e.nets) where
-    places_items : map (λ c. entry_word ws c 0) (pool.places k) ≡ (net_at e k).list.items
+    pub places_items : map (λ c. entry_word ws c 0) (pool.places k) ≡ (net_at e k).list.items
     unfolding net_at
     places_items =
         items_same (entries_in ws e.pools.nodes).node (λ c. entry_word ws c 0) (pool.places k) (pool.nets k h).chain.mine (λ d i. word_is d 0) ∙ (pool.nets k h).items
 
-    places_length : length (pool.places k) ≡ length (net_at e k).list.items
+    pub places_length : length (pool.places k) ≡ length (net_at e k).list.items
     places_length = sym (length-map (pool.places k) (λ c. entry_word ws c 0)) ∙ ap (λ (l : List ℕ). length l) places_items
 
-    places_seg : Seg (λ d. entry_word ws d 1) (net_word_words ws (k + 1) 2) (pool.places k) 0
+    pub places_seg : Seg (λ d. entry_word ws d 1) (net_word_words ws (k + 1) 2) (pool.places k) 0
     places_seg = seg_same _ (λ d. entry_word ws d 1) _ (pool.places k) 0 (pool.nets k h).chain.seg (all_of (λ c. word_is c 1) (pool.places k))
 
-    entries_at : (l xs : List ℕ) → map (λ c. entry_word ws c 0) l ≡ xs → ((n : ℕ) → Memᴰ n xs → n < e.pools.nodes) → All (Mine pool.own (get_or ws 11 0 + 1) k) l → All (EntryAt Named ws e m k (below k)) l
+    pub entries_at : (l xs : List ℕ) → map (λ c. entry_word ws c 0) l ≡ xs → ((n : ℕ) → Memᴰ n xs → n < e.pools.nodes) → All (Mine pool.own (get_or ws 11 0 + 1) k) l → All (EntryAt Named ws e m k (below k)) l
     unfolding used
     entries_at [] xs i g a = tt
     entries_at (c ∷ l) [] i g a = absurd (let z : suc (length (map (λ c. entry_word ws c 0) l)) ≡ 0 = ap (λ (x : List ℕ). length x) i in omega arith)
@@ -95,11 +95,11 @@ module _ (Named : ℕ → Name → Type 0) (ws : List ℕ) (e : Engine) (m : Mea
         let y = g x (Memᴰ.head refl) in
         (record { pos = a.0.pos; low = omega arith; slot = omega arith }, entries_at l xs (ap (drop 1) i) (λ n o. g n (Memᴰ.tail o)) a.1)
 
-    all_entries : All (EntryAt Named ws e m k (below k)) (pool.places k)
+    pub all_entries : All (EntryAt Named ws e m k (below k)) (pool.places k)
     all_entries = entries_at (pool.places k) (net_at e k).list.items places_items (good.lists k h).slots (pool.nets k h).chain.mine
 
     -- the first entry names the free node, and the last is an entry
-    first_is : (l xs : List ℕ) (c : ℕ) → map (λ c. entry_word ws c 0) l ≡ xs → nth xs 0 ≡ some (net_at e k).home.free → Seg (λ d. entry_word ws d 1) c l 0
+    pub first_is : (l xs : List ℕ) (c : ℕ) → map (λ c. entry_word ws c 0) l ≡ xs → nth xs 0 ≡ some (net_at e k).home.free → Seg (λ d. entry_word ws d 1) c l 0
         → All (Mine pool.own (get_or ws 11 0 + 1) k) l → (entry_word ws c 0 ≡ (net_at e k).home.free) × (0 < length l) × (last l 0 ≢ 0)
     first_is [] [] c i f g a = absurd (let z : ◌≡◌ {A = ℕ} 0 1 = cc in omega arith)
     first_is [] (x ∷ xs) c i f g a = absurd (let z : 0 ≡ suc (length xs) = ap (λ (x : List ℕ). length x) i in omega arith)
@@ -108,10 +108,10 @@ module _ (Named : ℕ → Name → Type 0) (ws : List ℕ) (e : Engine) (m : Mea
         let b = (all_last (Mine pool.own (get_or ws 11 0 + 1) k) d l a).pos in
         (ap (λ j. entry_word ws j 0) g.0 ∙ ap (λ (y : List ℕ). get_or y 0 0) i ∙ some-injective x (net_at e k).home.free f, omega arith, omega arith)
 
-    first : (entry_word ws (net_word_words ws (k + 1) 2) 0 ≡ (net_at e k).home.free) × (0 < length (pool.places k)) × (last (pool.places k) 0 ≢ 0)
+    pub first : (entry_word ws (net_word_words ws (k + 1) 2) 0 ≡ (net_at e k).home.free) × (0 < length (pool.places k)) × (last (pool.places k) 0 ≢ 0)
     first = first_is (pool.places k) (net_at e k).list.items (net_word_words ws (k + 1) 2) places_items (firsts k h) places_seg (pool.nets k h).chain.mine
 
-    starts_pass : starts ws (k + 1) ≡ true
+    pub starts_pass : starts ws (k + 1) ≡ true
     unfolding starts list_sizes_hold first_holds net_at
     starts_pass =
         let n = m.nets k h in
@@ -136,71 +136,28 @@ module _ (Named : ℕ → Name → Type 0) (ws : List ℕ) (e : Engine) (m : Mea
     pub seen : (n : ℕ) → n < e.pools.nodes → get_or marks (16385 + n) 0 ≡ bit (below k n)
     pub long : length marks ≡ 20481
 
-  drop_sum : (f : Net → ℕ) (k : ℕ) → k < length e.nets → sum (map f (drop k e.nets)) ≡ f (net_at e k) + sum (map f (drop (suc k) e.nets))
+  pub drop_sum : (f : Net → ℕ) (k : ℕ) → k < length e.nets → sum (map f (drop k e.nets)) ≡ f (net_at e k) + sum (map f (drop (suc k) e.nets))
   unfolding net_at
   drop_sum f k h = ap (λ (l : List Net). sum (map f l)) (drop-cons e.nets k no_net h)
 
   module _ (k : ℕ) (marks : List ℕ) (h : k < length e.nets) (g : Stage k marks) where
-    fresh : All (λ d. g.marked.has d ≡ false) (pool.places k)
+    pub fresh : All (λ d. g.marked.has d ≡ false) (pool.places k)
     fresh = all_map (λ d i. go d i.tag (g.marked.has d) refl) (pool.places k) (pool.nets k h).chain.mine
       where
         go : (d : ℕ) → pool.own d ≡ k → (b : Bool) → g.marked.has d ≡ b → b ≡ false
         go d i true y = absurd (let o = g.owned d y in omega arith)
         go d i false y = refl
 
-    begin : Meets e.pools.nodes 16385 (live Named ws e m k) (below k) marks 0 (map (λ c. entry_word ws c 0) (pool.places k))
+    pub begin : Meets e.pools.nodes 16385 (live Named ws e m k) (below k) marks 0 (map (λ c. entry_word ws c 0) (pool.places k))
     begin =
         meets_start marks (map (λ c. entry_word ws c 0) (pool.places k)) g.seen (λ n y. under_live k (get_or (owners (graph_of e)) n none) y)
         (λ n y. subst (Memᴰ n) (sym (places_items k h)) ((good.lists k h).there n y))
 
-    walk : Left Walk
+    unfoldable pub walk : Left Walk
     walk = walk_list ws marks (k + 1) (record { entry = net_word_words ws (k + 1) 2; last = 0; met = 0 }) (length (pool.places k))
 
-    through : Listed Named ws e m k (below k) g.count g.marked.has (pool.places k) 0 walk
-    unfolding walk
-    through =
-        walk_passes Named ws e m k (below k) (pool.places k) marks (net_word_words ws (k + 1) 2) 0 0 g.count few_entries (places_seg k h) (pool.nets k h).chain.once (all_entries k h) g.marked fresh begin
-        g.long
-
-    end_passes : end_holds ws (k + 1) walk.is ≡ true
-    unfolding end_holds net_at
-    end_passes =
-        let n = m.nets k h in
-        let c = meets_count through.met in
-        let d = (good.lists k h).counted in
-        let l = through.last_is in
-        let z = (first k h).2 in
-        let tail : walk.is.last ≡ net_word_words ws (k + 1) 3 = l ∙ sym (pool.nets k h).tail in
-        let a = n.stale_is in
-        let b = n.length_is in
-        other_yes _ _ _ (λ y. z (sym l ∙ y)) (same_yes _ _ _ through.ends (same_yes _ _ _ tail (eq-eqb (walk.is.met + net_word_words ws (k + 1) 6) (net_word_words ws (k + 1) 4) (omega arith))))
-
-    stage_on : Stage (suc k) walk.ws
-    stage_on = record {
-      count = g.count + length (pool.places k);
-      marked = through.marked;
-      owned = λ c y. owned c (through.only c y);
-      counted = let b = places_length k h in let c = g.counted in let d = drop_sum (λ n. length n.list.items) k h in omega arith;
-      seen = λ n l. through.met.marked n l ∙ ap bit (same n (through.met.seen n) refl (below (suc k) n) refl);
-      long = through.long;
-    }
-      where
-        owned : (c : ℕ) → (g.marked.has c ≡ true) ⊎ Memᴰ c (pool.places k) → pool.own c < suc k
-        owned c (inl y) = let o = g.owned c y in omega arith
-        owned c (inr i) = let o = (all_mem (Mine pool.own (get_or ws 11 0 + 1) k) (pool.places k) (pool.nets k h).chain.mine c i).tag in omega arith
-
-        met_under : (n : ℕ) → (is_of k (get_or (owners (graph_of e)) n none) ≡ true) ⊎ (below k n ≡ true) → through.met.seen n ≡ true
-        met_under n (inl y) = meets_seen through.met n y
-        met_under n (inr y) = through.met.kept n y
-
-        same : (n : ℕ) (a : Bool) → through.met.seen n ≡ a → (b : Bool) → below (suc k) n ≡ b → through.met.seen n ≡ below (suc k) n
-        same n true x true y = x ∙ sym y
-        same n true x false y = absurd (false≢true (sym y ∙ under_more k (get_or (owners (graph_of e)) n none) (through.met.only n x)))
-        same n false x true y = absurd (false≢true (sym x ∙ met_under n (under_less k (get_or (owners (graph_of e)) n none) y)))
-        same n false x false y = x ∙ sym y
-
     -- `list-holds` answers yes
-    list_is : says (end_holds ws (k + 1) walk.is) walk.ws ≡ list_holds ws marks (k + 1)
+    pub list_is : says (end_holds ws (k + 1) walk.is) walk.ws ≡ list_holds ws marks (k + 1)
     unfolding list_holds walked walk net_at
     list_is =
         let n : length (pool.places k) ≡ net_word_words ws (k + 1) 4 = places_length k h ∙ sym (m.nets k h).length_is in
@@ -209,11 +166,8 @@ module _ (Named : ℕ → Name → Type 0) (ws : List ℕ) (e : Engine) (m : Mea
         walked' : ℕ → Left Walk
         walked' j = walk_list ws marks (k + 1) (record { entry = net_word_words ws (k + 1) 2; last = 0; met = 0 }) j
 
-    pub list_passes : ((list_holds ws marks (k + 1)).is ≡ true) × Stage (suc k) (list_holds ws marks (k + 1)).ws
-    list_passes = subst (λ (r : Left Bool). (r.is ≡ true) × Stage (suc k) r.ws) list_is (end_passes, stage_on)
-
   -- none is met
-  start : Stage 0 (replicate 20481 0)
+  pub start : Stage 0 (replicate 20481 0)
   unfolding entries
   start = record {
     count = 0;
@@ -227,24 +181,12 @@ module _ (Named : ℕ → Name → Type 0) (ws : List ℕ) (e : Engine) (m : Mea
       long : length (replicate {A = ℕ} 20481 0) ≡ 20481
       long = length-replicate {A = ℕ} 20481 0
 
-  abbrev StageAt : ℕ → List ℕ → Type 0
+  abbrev pub StageAt : ℕ → List ℕ → Type 0
   StageAt zero marks = ⊥
   StageAt (suc k) marks = Stage k marks
 
-  step : (i : ℕ) (marks : List ℕ) → i < suc (length e.nets) → StageAt i marks → ((list_holds ws marks i).is ≡ true) × StageAt (suc i) (list_holds ws marks i).ws
-  step zero marks h g = absurd g
-  step (suc k) marks h g =
-      let z : k + 1 ≡ suc k = omega arith in
-      subst (λ (i : ℕ). ((list_holds ws marks i).is ≡ true) × Stage (suc k) (list_holds ws marks i).ws) z (list_passes k marks (omega arith) g)
-
   abbrev pub walk_all_words : Left Bool
   walk_all_words = each_with (list_holds ws) (replicate 20481 0) 1 (length e.nets)
-
-  -- all lists pass, and leave these marks
-  pub all_lists : (walk_all_words.is ≡ true) × Stage (length e.nets) walk_all_words.ws
-  all_lists =
-      let b = m.header.few_nets in
-      each_with_yes (list_holds ws) StageAt (suc (length e.nets)) (omega arith) step (length e.nets) 1 (replicate 20481 0) (omega arith) start
 
   -- every entry of a list is met
   pub all_counted : (g : Stage (length e.nets) walk_all_words.ws) → g.count ≡ entries e

@@ -24,67 +24,32 @@ use Rattle.image_chains_means.specs.Alls.{all_of}
 use Rattle.image_chains_means.specs.Places.{Marked, recount, all_places}
 use Rattle.image_chains_means.specs.Chains.{Through, Free, Kept, chain_others, pool_left, pool_passes}
 use Rattle.image_lists_means.specs.Net.{spots}
-use Rattle.image_lists_means.specs.Nets.{under, word_is, few_entries, Stage, walk_all_words, all_lists, all_counted}
+use Rattle.image_lists_means.specs.Nets.{under, word_is, few_entries, Stage, walk_all_words, all_counted}
 use Rattle.image_lists_means.specs.Slots.{slots_pass}
 
 -- an answer that is yes, and the next
-then_yes : (r : Left Bool) (f : List ℕ → Left Bool) → r.is ≡ true → (f r.ws).is ≡ true → (then r f).is ≡ true
+pub then_yes : (r : Left Bool) (f : List ℕ → Left Bool) → r.is ≡ true → (f r.ws).is ≡ true → (then r f).is ≡ true
 unfolding then
 then_yes r f y h = ap (λ (x : Left Bool). x.is) (sym (pick_true _ _ _ y refl)) ∙ h
 
 module _ (Named : ℕ → Name → Type 0) (ws : List ℕ) (e : Engine) (m : Means Named ws e) (good : Good rest e)
     (firsts : (k : ℕ) → k < length e.nets → nth (net_at e k).list.items 0 ≡ some (net_at e k).home.free) where
   -- the marks after the lists
-  abbrev marks : List ℕ
+  abbrev pub marks : List ℕ
   marks = (walk_all_words Named ws e m good firsts).ws
 
-  stage : Stage Named ws e m good firsts (length e.nets) marks
-  stage = (all_lists Named ws e m good firsts).1
-
-  free_entries : All (Free Entries ws 0 spots) m.lists.freed
+  pub free_entries : All (Free Entries ws 0 spots) m.lists.freed
   unfolding used vacant
   free_entries = all_map (λ d i. let b = i.below in record { pos = i.pos; low = omega arith; vacant = refl }) m.lists.freed m.lists.free.mine
 
-  free_new : All (λ d. stage.marked.has d ≡ false) m.lists.freed
-  free_new = all_map (λ d i. go d i.tag (stage.marked.has d) refl) m.lists.freed m.lists.free.mine
-    where
-      go : (d : ℕ) → m.lists.own d ≡ 256 → (b : Bool) → stage.marked.has d ≡ b → b ≡ false
-      go d i true y = absurd (let o = stage.owned d y in let b = m.header.few_nets in omega arith)
-      go d i false y = refl
-
-  free_seg : Seg (after Entries ws) (first_free Entries ws) m.lists.freed 0
+  pub free_seg : Seg (after Entries ws) (first_free Entries ws) m.lists.freed 0
   unfolding first_free after
   free_seg = seg_same _ _ _ m.lists.freed 0 m.lists.free.seg (all_of (λ c. word_is Named ws e m good firsts c 1) m.lists.freed)
 
-  short : length m.lists.freed ≤ used Entries ws
+  pub short : length m.lists.freed ≤ used Entries ws
   unfolding used
   short = let a : length m.lists.freed + entries e ≡ get_or ws 11 0 = m.lists.all in omega arith
 
-  entries_pass : (pool_holds Entries ws marks).is ≡ true
-  unfolding used low
-  entries_pass =
-      let a : length m.lists.freed + entries e ≡ get_or ws 11 0 = m.lists.all in
-      let f : get_or ws 11 0 ≤ 16384 = few_entries Named ws e m good firsts in
-      pool_passes Entries ws 0 spots m.lists.freed marks stage.count stage.marked refl (omega arith) free_seg short free_entries m.lists.free.once free_new
-      (λ r c p i. all_places (recount r.marked (get_or ws 11 0) (let n = all_counted Named ws e m good firsts stage in omega arith)) c p i)
-
-  kept : Kept Entries ws 0 spots (free_hold Entries ws marks (first_free Entries ws) (used Entries ws)) marks
-  kept = chain_others Entries ws 0 spots m.lists.freed marks (first_free Entries ws) (used Entries ws) stage.count free_seg short free_entries m.lists.free.once stage.marked free_new
-
-  vacant_pass : (pool_holds Slots ws (pool_holds Entries ws marks).ws).is ≡ true
-  vacant_pass =
-      let f = few_entries Named ws e m good firsts in
-      rw (pool_left Entries ws 0 spots marks) (slots_pass Named ws e m good (free_hold Entries ws marks (first_free Entries ws) (used Entries ws)).ws
-      (λ n h. kept.1 (16385 + n) (λ d p l. omega arith) ∙ stage.seen n h) (kept.0 ∙ stage.long))
-
   -- the walk over n nets, and the rest
-  abbrev walked : ℕ → Left Bool
+  abbrev pub walked : ℕ → Left Bool
   walked n = each_with (list_holds ws) (replicate 20481 0) 1 n
-
-  all_pass : (then (walked (length e.nets)) (λ x. then (pool_holds Entries ws x) (pool_holds Slots ws))).is ≡ true
-  all_pass = then_yes _ _ (all_lists Named ws e m good firsts).0 (then_yes _ _ entries_pass vacant_pass)
-
-  -- `pools-hold` answers yes
-  pub pools_pass : pools_hold ws ≡ true
-  unfolding pools_hold all_hold
-  pools_pass = subst (λ (n : ℕ). (then (walked n) (λ x. then (pool_holds Entries ws x) (pool_holds Slots ws))).is ≡ true) (sym m.header.nets_are) all_pass

@@ -169,7 +169,7 @@ hung_is ws w N k c n p j m few h pos d a = record {
 
 module _ (Named : ℕ → Name → Type 0) (ws : List ℕ) (e : Engine) (m : Means Named ws e) (k n : ℕ) (h : k < length e.nets) where
   -- the list pushed on
-  pushed : Net → Net
+  unfoldable pub pushed : Net → Net
   pushed t = with_list (push n t.list) t
 
   -- what the words are after an entry was taken and put at the end of net k's list
@@ -223,41 +223,13 @@ module _ (Named : ℕ → Name → Type 0) (ws : List ℕ) (e : Engine) (m : Mea
         (pool_lists _ _ (λ u i. sym (read_same (λ (x : Net). map (λ v. (v.node, v.net + 1)) x.awaiting) e.nets k (pushed (net_at e k)) refl u))
         (awaits_keep Named ws w e m (λ i q. rests.same i (omega arith)) (λ i q. rests.same i (omega arith)) (λ i q. rests.same i (omega arith))))
 
-    put_means : Means Named w (over_net pushed k e)
+    pub put_means : Means Named w (over_net pushed k e)
     put_means =
         let u = m.used.waits in
         let v = t.used in
         let e11 = a.other 11 (omega arith) (omega arith) (not_there a.link 11 (omega arith) (omega arith)) (omega arith) (omega arith) (omega arith) in
         let e13 = rests.same 13 (omega arith) in
         means_net Named ws w e m pushed k h (record { long = rests.long; same = λ i o. rests.same i (o.1, o.0) }) net_is (omega arith) lists_are waits_same
-
-  -- node n at the end of net k's list
-  pub push_node_means : entries e < e.pools.entries → (net_at e k).list.capacity < 2147483648
-      → ((push_node ws (k + 1) n).is ≡ true) × Means Named (push_node ws (k + 1) n).ws (over_net (λ t. with_list (push n t.list) t) k e)
-  unfolding push_node pushed
-  push_node_means room small =
-      let few = m.header.few_nets in
-      let w0 = (take_entry ws).ws in
-      let c = (take_entry ws).is in
-      let t : Taken ws w0 e c = take_entry_means Named ws e m room in
-      let root = t.loose.pool.nets k h in
-      let p = net_word_words w0 (k + 1) 3 in
-      let u = t.used in
-      let long = m.header.long in
-      let l0 = t.rest.long in
-      let pos : 0 < c = t.loose.mine.pos in
-      let b : c < get_or w0 11 0 + 1 = t.loose.mine.below in
-      let most : p < get_or w0 11 0 + 1 = rw root.tail (last_below (t.loose.pool.places k) root.chain (omega arith)) in
-      let apart : p ≢ c = λ d. last_not {s = 257} root.chain (omega arith) (rw (← root.tail, d) t.loose.mine) in
-      let enough : 5216 + 32 * e.pools.nodes + 2 * e.pools.entries ≤ length w0 = omega arith in
-      let pool : node_pool w0 ≡ e.pools.nodes = t.rest.same 1 (omega arith) ∙ m.header.nodes in
-      let i : append w0 (k + 1) n c ≡ _
-      = append_is w0 e.pools.nodes e.pools.entries k c n enough pos (omega arith) (omega arith) apart (omega arith) pool in
-      let done : Means Named (append w0 (k + 1) n c) (over_net pushed k e)
-      = rw i (put_means w0 _ c p (pointer_at e.pools.nodes k p) t
-      (appended w0 e.pools.nodes e.pools.entries k c n p (pointer_at e.pools.nodes k p) enough pos (omega arith) (omega arith) apart (omega arith) (pointer_link e.pools.nodes k p))
-      (omega arith) (omega arith) pos apart refl room small) in
-      subst (λ (y : Left Bool). (y.is ≡ true) × Means Named y.ws (over_net pushed k e)) (eq_no c 0 _ _ (omega arith) refl) (refl, done)
 
   -- and where all lists together hold E nothing is changed
   pub push_node_full : e.pools.entries ≤ entries e → ((push_node ws (k + 1) n).is ≡ false) × ((push_node ws (k + 1) n).ws ≡ ws)

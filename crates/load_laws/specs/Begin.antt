@@ -39,36 +39,36 @@ use Rattle.step_laws.specs.Ready.{Ready}
 use Rattle.step_laws.specs.First.{Firsts}
 use Rattle.load_laws.specs.Finds.{all_mem}
 use Rattle.load_laws.specs.Ends.{ends_length}
-use Rattle.load_laws.specs.Loaded.{Loaded, NetFine, Added, map_snoc, net_loaded, net_first}
+use Rattle.load_laws.specs.Loaded.{Loaded, NetFine, Added, map_snoc, net_first}
 
 -- ---- no node
 
-none_at : (N n : ℕ) → ◌≡◌ {A = Option Node} (get_or (replicate N none) n none) none
+pub none_at : (N n : ℕ) → ◌≡◌ {A = Option Node} (get_or (replicate N none) n none) none
 none_at zero n = refl
 none_at (suc N) zero = refl
 none_at (suc N) (suc n) = none_at N n
 
 module _ (N : ℕ) where
-  abbrev vacant : Graph
+  abbrev pub vacant : Graph
   vacant = replicate N none
 
-  none_filled : (n : ℕ) → filled vacant n ≡ false
+  pub none_filled : (n : ℕ) → filled vacant n ≡ false
   unfolding filled
   none_filled n = ap is_some (none_at N n)
 
-  none_across : (p : Port) → across vacant p ≡ none
+  pub none_across : (p : Port) → across vacant p ≡ none
   unfolding across at
   none_across p = ap (λ (o : Option Node). get_or (or_else o nowhere).ports p.index none) (none_at N p.node)
 
-  none_arity : (n : ℕ) → arity vacant n ≡ 0
+  pub none_arity : (n : ℕ) → arity vacant n ≡ 0
   unfolding arity at
   none_arity n = ap (λ (o : Option Node). length (or_else o nowhere).ports) (none_at N n)
 
-  none_holds : (k n : ℕ) → holds vacant k n ≡ false
+  pub none_holds : (k n : ℕ) → holds vacant k n ≡ false
   unfolding holds
   none_holds k n = ap (λ (o : Option Node). elim o as (λ _. Bool) [ none ↦ false | some x ↦ eqb x.net k ]) (none_at N n)
 
-  none_rest : (path : ℕ) → Rest path [] vacant
+  pub none_rest : (path : ℕ) → Rest path [] vacant
   none_rest path = record {
     well = record {
       wired = record {
@@ -89,7 +89,7 @@ module _ (N : ℕ) where
       no_home zero h e = let z : ◌≡◌ {A = ℕ} 0 1 = cc in omega arith
       no_home (suc k) h e = let z : ◌≡◌ {A = ℕ} 0 1 = cc in omega arith
 
-ids : (n k : ℕ) → map (λ i. i) (from k n) ≡ from k n
+pub ids : (n k : ℕ) → map (λ i. i) (from k n) ≡ from k n
 ids zero k = refl
 ids (suc n) k = ap (λ (l : List ℕ). k ∷ l) (ids n (suc k))
 
@@ -128,17 +128,17 @@ pub record Begun (path : ℕ) (Q : Name → ℕ → Type 0) (rs : List Rule) (ts
   pub nodes : AllNodes Q c.graph
 
 -- what the load asks of a net
-record NetGood (Q : Name → ℕ → Type 0) (name : Name) (t : FlatNet) : Type 0 where
-  fine : NetFine t
-  free : Q name (2 + length t.free)
-  nodes : Each (λ (x : FlatNode). Q x.name (suc (length x.aux))) t.nodes
+pub record NetGood (Q : Name → ℕ → Type 0) (name : Name) (t : FlatNet) : Type 0 where
+  pub fine : NetFine t
+  pub free : Q name (2 + length t.free)
+  pub nodes : Each (λ (x : FlatNode). Q x.name (suc (length x.aux))) t.nodes
 
 pub same_map : {A : Type 0} (f g : A → ℕ) (xs : List A) → ((k : ℕ) (x : A) → nth xs k ≡ some x → f x ≡ g x) → map f xs ≡ map g xs
 same_map f g [] h = refl
 same_map f g (x ∷ xs) h = λ i. h 0 x refl i ∷ same_map f g xs (λ k y e. h (suc k) y e) i
 
 module _ (path : ℕ) (Q : Name → ℕ → Type 0) (rules : List Rule) (name : Name) (named : name.path ≡ path) where
-  met_brings : (met xs : List End) → Brings Q (join_met met xs)
+  pub met_brings : (met xs : List End) → Brings Q (join_met met xs)
   unfolding join_met
   met_brings met [] = tt
   met_brings met (x ∷ xs) = go (find (λ y. eqb x.0 y.0) met) (met_brings (x ∷ met) xs)
@@ -147,7 +147,7 @@ module _ (path : ℕ) (Q : Name → ℕ → Type 0) (rules : List Rule) (name : 
       go none b = b
       go (some y) b = b
 
-  nodes_brings : (N : ℕ → ℕ) (t : FlatNet) (k : ℕ) (xs : List FlatNode) (met : List End) (j : ℕ) → Each (λ (x : FlatNode). Q x.name (suc (length x.aux))) xs → Brings Q (load_nodes N t k met j xs)
+  pub nodes_brings : (N : ℕ → ℕ) (t : FlatNet) (k : ℕ) (xs : List FlatNode) (met : List End) (j : ℕ) → Each (λ (x : FlatNode). Q x.name (suc (length x.aux))) xs → Brings Q (load_nodes N t k met j xs)
   unfolding load_nodes new
   nodes_brings N t k [] met j h = tt
   nodes_brings N t k (x ∷ xs) met j h = (
@@ -158,7 +158,7 @@ module _ (path : ℕ) (Q : Name → ℕ → Type 0) (rules : List Rule) (name : 
       ends : List End
       ends = ends_at t (N j) 0 (x.pri ∷ x.aux)
 
-  net_brings : (N : ℕ → ℕ) (k : ℕ) (t : FlatNet) → NetGood Q name t → Brings Q (load_net N name k t)
+  pub net_brings : (N : ℕ → ℕ) (k : ℕ) (t : FlatNet) → NetGood Q name t → Brings Q (load_net N name k t)
   unfolding load_net new
   net_brings N k t g = (
     subst (Q name) (sym (length-replicate (2 + length t.free) none)) g.free,
@@ -167,7 +167,7 @@ module _ (path : ℕ) (Q : Name → ℕ → Type 0) (rules : List Rule) (name : 
   )
 
   -- one net more
-  net_begun : (us : List FlatNet) (t : FlatNet) (c d : Core) → NetGood Q name t → Begun path Q rules us c → Loaded path d → Added name t c d → Begun path Q rules (us ++ t ∷ []) d
+  pub net_begun : (us : List FlatNet) (t : FlatNet) (c d : Core) → NetGood Q name t → Begun path Q rules us c → Loaded path d → Added name t c d → Begun path Q rules (us ++ t ∷ []) d
   net_begun us t c d g b l a = record {
     loaded = l;
     rules = a.rules ∙ b.rules;
@@ -183,21 +183,7 @@ module _ (path : ℕ) (Q : Name → ℕ → Type 0) (rules : List Rule) (name : 
       kept : (k : ℕ) (h : Home) → nth c.homes k ≡ some h → arity d.graph h.free ≡ arity c.graph h.free
       kept k h e = arity_same c.graph d.graph h.free (a.old h.free (holds_filled c.graph k h.free (b.loaded.rest.free k h e).held))
 
-  nets_begun : (ts us : List FlatNet) (e : Engine) → ((t : FlatNet) → Memᴰ t ts → NetGood Q name t) → Begun path Q rules us (core_of e)
-      → Then (λ e'. Begun path Q rules (us ++ ts) (core_of e')) (each (add_flat_net name) ts e)
-  nets_begun [] us e h b = subst (λ (vs : List FlatNet). Begun path Q rules vs (core_of e)) (sym (append-nil us)) b
-  nets_begun (t ∷ ts) us e h b =
-      go (add_flat_net name t e) (net_loaded path name named t e (h t (mathlib.Core.List.Memᴰ.head refl)).fine b.loaded) (λ e'. nets_begun ts (us ++ t ∷ []) e' (λ u m. h u (mathlib.Core.List.Memᴰ.tail m)))
-    where
-      go : (r : Result Engine) → Then (λ e'. Loaded path (core_of e') × Added name t (core_of e) (core_of e')) r
-          → ((e' : Engine) → Begun path Q rules (us ++ t ∷ []) (core_of e') → Then (λ e''. Begun path Q rules ((us ++ t ∷ []) ++ ts) (core_of e'')) (each (add_flat_net name) ts e'))
-          → Then (λ e''. Begun path Q rules (us ++ t ∷ ts) (core_of e'')) (r >>= λ e'. each (add_flat_net name) ts e')
-      go (refuse r) x k = tt
-      go (ok e') x k =
-          subst (λ (vs : List FlatNet). Then (λ e''. Begun path Q rules vs (core_of e'')) (each (add_flat_net name) ts e')) (append_assoc us (t ∷ []) ts)
-          (k e' (net_begun us t (core_of e) (core_of e') (h t (mathlib.Core.List.Memᴰ.head refl)) b x.0 x.1))
-
-keep_in : (g : FlatNet → Bool) (ts : List FlatNet) (t : FlatNet) → Memᴰ t (keep g ts) → Memᴰ t ts
+pub keep_in : (g : FlatNet → Bool) (ts : List FlatNet) (t : FlatNet) → Memᴰ t (keep g ts) → Memᴰ t ts
 keep_in g [] t m = m
 keep_in g (u ∷ ts) t m = go (g u) m (keep_in g ts t)
   where
@@ -211,7 +197,7 @@ keep_in g (u ∷ ts) t m = go (g u) m (keep_in g ts t)
 
 -- ---- the free path
 
-place_passes : (g : List ℕ → Bool) (xs : List (List ℕ)) → any g xs ≡ true → g (get_or xs (place g xs) []) ≡ true
+pub place_passes : (g : List ℕ → Bool) (xs : List (List ℕ)) → any g xs ≡ true → g (get_or xs (place g xs) []) ≡ true
 place_passes g [] e = absurd (true≢false (sym e))
 place_passes g (x ∷ xs) e = go (g x) refl e (place_passes g xs)
   where
@@ -219,7 +205,7 @@ place_passes g (x ∷ xs) e = go (g x) refl e (place_passes g xs)
     go true s q r = s
     go false s q r = r q
 
-place_past : (g : List ℕ → Bool) (xs ys : List (List ℕ)) → any g xs ≡ false → length xs ≤ place g (xs ++ ys)
+pub place_past : (g : List ℕ → Bool) (xs ys : List (List ℕ)) → any g xs ≡ false → length xs ≤ place g (xs ++ ys)
 place_past g [] ys e = omega arith
 place_past g (x ∷ xs) ys e = go (g x) e (place_past g xs ys)
   where
@@ -227,7 +213,7 @@ place_past g (x ∷ xs) ys e = go (g x) e (place_past g xs ys)
     go true q r = absurd (true≢false q)
     go false q r = let z = r q in omega arith
 
-any_none : {A : Type 0} (g : A → Bool) (xs : List A) (x : A) → any g xs ≡ false → Memᴰ x xs → g x ≡ false
+pub any_none : {A : Type 0} (g : A → Bool) (xs : List A) (x : A) → any g xs ≡ false → Memᴰ x xs → g x ≡ false
 any_none g [] x e m = absurd (mathlib.Core.List.Memᴰ.not-nil m)
 any_none g (y ∷ ys) x e m = go (g y) refl e (mathlib.Core.List.Memᴰ.cases_cons m) (any_none g ys x)
   where
@@ -245,7 +231,7 @@ each_mem P (y ∷ ys) x e m = go (mathlib.Core.List.Memᴰ.cases_cons m) (each_m
     go (inr k) r = r k
 
 -- a path that a rewrite is registered for is one of the rule's, and below the number of paths
-rewrite_path : (paths : ℕ) (r : Rule) → RuleFits paths r → (p : ℕ) → Memᴰ p (rewrites r) → Memᴰ p (rule_paths r) × (p < paths)
+pub rewrite_path : (paths : ℕ) (r : Rule) → RuleFits paths r → (p : ℕ) → Memᴰ p (rewrites r) → Memᴰ p (rule_paths r) × (p < paths)
 unfolding rewrites rule_paths
 rewrite_path paths (graft q lazy) fit p m = (m, subst (λ (j : ℕ). j < paths) (sym (mathlib.Core.List.Memᴰ.eq_of_singleton m)) fit)
 rewrite_path paths (annihilate ps) fit p m = absurd (mathlib.Core.List.Memᴰ.not-nil m)
@@ -253,7 +239,7 @@ rewrite_path paths (erase es ns) fit p m = absurd (mathlib.Core.List.Memᴰ.not-
 rewrite_path paths (commute xs ys) fit p m = absurd (mathlib.Core.List.Memᴰ.not-nil m)
 rewrite_path paths (eta cs vs ns) fit p m = (mathlib.Core.List.Memᴰ.append_left ns (mathlib.Core.List.Memᴰ.append_left vs m), each_mem (λ j. j < paths) cs p fit.0.inside m)
 
-unnamed : (paths : List (List ℕ)) (rules : List Rule) → Each (RuleFits (length paths)) rules → any (names_free paths) rules ≡ false → Unnamed (free_name paths).path rules
+pub unnamed : (paths : List (List ℕ)) (rules : List Rule) → Each (RuleFits (length paths)) rules → any (names_free paths) rules ≡ false → Unnamed (free_name paths).path rules
 unfolding free_name with_free_path names_free
 unnamed paths rules fit free r m p =
     let x = rewrite_path (length paths) r (each_mem (RuleFits (length paths)) rules r fit m) (free_name paths).path p in
@@ -288,13 +274,13 @@ net_fine f o w t m = record {
   wired = all_mem flat_wired f.nets t w m;
 }
 
-names_none : (f : File FlatNet) → free_named flat f ≡ false → any (names_free f.paths) f.rules ≡ false
+pub names_none : (f : File FlatNet) → free_named flat f ≡ false → any (names_free f.paths) f.rules ≡ false
 unfolding free_named
 names_none f e = e
 
 -- ---- names and numbers of ports
 
-each_map : {A : Type 0} (P R : A → Type 0) → ((x : A) → P x → R x) → (xs : List A) → Each P xs → Each R xs
+pub each_map : {A : Type 0} (P R : A → Type 0) → ((x : A) → P x → R x) → (xs : List A) → Each P xs → Each R xs
 each_map P R h [] e = tt
 each_map P R h (x ∷ xs) e = (h x e.0, each_map P R h xs e.1)
 
@@ -302,7 +288,7 @@ each_map P R h (x ∷ xs) e = (h x e.0, each_map P R h xs e.1)
 pub name_wider : (paths more names : ℕ) → paths ≤ more → (m : Name) → NameFits paths names m → NameFits more names m
 name_wider paths more names l m h = record { path = (let z = h.path in omega arith); payload = h.payload; few = h.few; children = h.children }
 
-place_below : (g : List ℕ → Bool) (xs : List (List ℕ)) → any g xs ≡ true → place g xs < length xs
+pub place_below : (g : List ℕ → Bool) (xs : List (List ℕ)) → any g xs ≡ true → place g xs < length xs
 place_below g [] e = absurd (true≢false (sym e))
 place_below g (x ∷ xs) e = go (g x) e (place_below g xs)
   where
@@ -320,11 +306,11 @@ with_free ps = go (any (eqs free_path) ps) refl
     go true e = (e, omega arith)
     go false e = (any_append (eqs free_path) ps (free_path ∷ []) ∙ ap (λ (t : Bool). t || (eqs free_path free_path || false)) e, let z = length-append ps (free_path ∷ []) in omega arith)
 
-free_fits : (ps : List (List ℕ)) (names : ℕ) → NameFits (length (with_free_path ps)) names (free_name ps)
+pub free_fits : (ps : List (List ℕ)) (names : ℕ) → NameFits (length (with_free_path ps)) names (free_name ps)
 unfolding free_name
 free_fits ps names = record { path = place_below (eqs free_path) (with_free_path ps) (with_free ps).0; payload = omega arith; few = omega arith; children = tt }
 
-net_good : (f : File FlatNet) → ordered flat f ≡ true → wired flat f ≡ true → (t : FlatNet) → Memᴰ t f.nets → FlatNetFits (length f.paths) (length f.names) t
+pub net_good : (f : File FlatNet) → ordered flat f ≡ true → wired flat f ≡ true → (t : FlatNet) → Memᴰ t f.nets → FlatNetFits (length f.paths) (length f.names) t
     → NetGood (Writable (length (with_free_path f.paths)) (length f.names)) (free_name f.paths) t
 net_good f o w t m fits = record {
   fine = net_fine f o w t m;
@@ -333,7 +319,7 @@ net_good f o w t m fits = record {
       (λ x h. (name_wider (length f.paths) (length (with_free_path f.paths)) (length f.names) (with_free f.paths).1 x.name h.name, let z = h.few in omega arith)) t.nodes fits.nodes;
 }
 
-nets_first : (name : Name) (ts : List FlatNet) (e : Engine) → Firsts (core_of e) → Then (λ e'. Firsts (core_of e')) (each (add_flat_net name) ts e)
+pub nets_first : (name : Name) (ts : List FlatNet) (e : Engine) → Firsts (core_of e) → Then (λ e'. Firsts (core_of e')) (each (add_flat_net name) ts e)
 nets_first name [] e f = f
 nets_first name (t ∷ ts) e f = go (add_flat_net name t e) (net_first name t e f) (λ e'. nets_first name ts e')
   where
@@ -354,38 +340,10 @@ load_first p f e q = go (load p f) (nets_first (free_name f.paths) (included f) 
     go (refuse r) x y = let z : ◌≡◌ {A = ℕ} 0 1 = cc in absurd (omega arith)
     go (ok e') x y = subst (λ (d : Engine). Firsts (core_of d)) (ap (λ (r : Result Engine). elim r as (λ _. Engine) [ ok d ↦ d | refuse n ↦ e' ]) y) x
 
-empty_begun : (path : ℕ) (Q : Name → ℕ → Type 0) (p : Pools) (f : File FlatNet) → Begun path Q f.rules [] (core_of (empty p f))
+pub empty_begun : (path : ℕ) (Q : Name → ℕ → Type 0) (p : Pools) (f : File FlatNet) → Begun path Q f.rules [] (core_of (empty p f))
 unfolding empty core_of
 empty_begun path Q p f = record { loaded = empty_loaded path p f; rules = refl; ports = refl; nodes = λ n e. absurd (true≢false (sym e ∙ none_filled p.nodes n)) }
 
 module _ (bs : List ℕ) (b : Bytes bs) (f : File FlatNet) (h : read flat bs ≡ ok f) (p : Pools) (e : Engine) (q : load p f ≡ ok e) where
-  spells : Spells flat FlatNetFits bs f
+  pub spells : Spells flat FlatNetFits bs f
   spells = flat_write_read bs b f h
-
-  -- what the load of an accepted file leaves: each net has as many free ports as the file gives it free wires, each node can be written
-  pub load_begun : Begun (free_name f.paths).path (Writable (length (with_free_path f.paths)) (length f.names)) f.rules (included f) (core_of e)
-  unfolding load included
-  load_begun = go (load p f) (nets_begun path Q f.rules (free_name f.paths) refl (included f) [] (empty p f) good (empty_begun path Q p f)) q
-    where
-      path : ℕ
-      path = (free_name f.paths).path
-
-      Q : Name → ℕ → Type 0
-      Q = Writable (length (with_free_path f.paths)) (length f.names)
-
-      good : (t : FlatNet) → Memᴰ t (keep (λ t. t.included) f.nets) → NetGood Q (free_name f.paths) t
-      good t m =
-          let i = keep_in (λ t. t.included) f.nets t m in
-          net_good f (T_true (ordered flat f) spells.ordered) (T_true (wired flat f) spells.wired) t i (each_mem (FlatNetFits (length f.paths) (length f.names)) f.nets t spells.fits.tables.nets i)
-
-      go : (r : Result Engine) → Then (λ e'. Begun path Q f.rules (included f) (core_of e')) r → r ≡ ok e → Begun path Q f.rules (included f) (core_of e)
-      go (refuse r) x y = let z : ◌≡◌ {A = ℕ} 0 1 = cc in absurd (omega arith)
-      go (ok e') x y = subst (λ (d : Engine). Begun path Q f.rules (included f) (core_of d)) (ap (λ (r : Result Engine). elim r as (λ _. Engine) [ ok d ↦ d | refuse n ↦ e' ]) y) x
-
-  -- `wired` at the start: it is ready
-  pub load_ready : Ready (free_name f.paths).path (core_of e)
-  load_ready = record {
-    unnamed = subst (Unnamed (free_name f.paths).path) (sym load_begun.rules) (unnamed f.paths f.rules spells.fits.tables.rules (names_none f (not_false (free_named flat f) spells.unnamed)));
-    rest = load_begun.loaded.rest;
-    tracked = load_begun.loaded.tracked;
-  }

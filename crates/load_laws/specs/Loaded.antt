@@ -30,8 +30,8 @@ use Rattle.step_laws.specs.Edits.{Then, Needs, edit_core}
 use Rattle.step_laws.specs.Acting.{Made, edits_made}
 use Rattle.step_laws.specs.Numbers.{tracked_fresh}
 use Rattle.step_laws.specs.First.{Firsts, listed_below, edits_first}
-use Rattle.load_laws.specs.Loads.{loaded, F, loaded_tidy}
-use Rattle.load_laws.specs.Start.{free_ports, free_held, free_named_lem, free_wired, load_order}
+use Rattle.load_laws.specs.Loads.{loaded, F}
+use Rattle.load_laws.specs.Start.{load_order}
 
 -- every net is well wired with its free node, every node is tracked
 pub record Loaded (path : ℕ) (c : Core) : Type 0 where
@@ -59,7 +59,7 @@ map_snoc f [] x = refl
 map_snoc f (y ∷ ys) x = ap (λ l. f y ∷ l) (map_snoc f ys x)
 
 -- the last of a list, or one before
-nth_snoc : {A : Type 0} (xs : List A) (x y : A) (k : ℕ) → nth (xs ++ x ∷ []) k ≡ some y → (nth xs k ≡ some y) ⊎ ((k ≡ length xs) × (y ≡ x))
+pub nth_snoc : {A : Type 0} (xs : List A) (x y : A) (k : ℕ) → nth (xs ++ x ∷ []) k ≡ some y → (nth xs k ≡ some y) ⊎ ((k ≡ length xs) × (y ≡ x))
 nth_snoc [] x y zero e = inr (refl, sym (some-injective x y e))
 nth_snoc [] x y (suc k) e = let z : ◌≡◌ {A = ℕ} 0 1 = cc in absurd (omega arith)
 nth_snoc (v ∷ xs) x y zero e = inl e
@@ -70,7 +70,7 @@ nth_snoc {A} (v ∷ xs) x y (suc k) e = go (nth_snoc xs x y k e)
     go (inr s) = inr (ap suc s.0, s.1)
 
 -- a core with an empty net more
-abbrev wider : Home → Core → Core
+abbrev pub wider : Home → Core → Core
 wider h c = record {
   graph = c.graph;
   chain = c.chain;
@@ -82,7 +82,7 @@ wider h c = record {
   limit = c.limit;
 }
 
-core_wider : (h : Home) (e : Engine) → core_of (with_nets (e.nets ++ new_net h ∷ []) e) ≡ wider h (core_of e)
+pub core_wider : (h : Home) (e : Engine) → core_of (with_nets (e.nets ++ new_net h ∷ []) e) ≡ wider h (core_of e)
 unfolding core_of with_nets
 core_wider h e = λ i. record {
   graph = graph_of e;
@@ -95,7 +95,7 @@ core_wider h e = λ i. record {
   limit = e.limit;
 }
 
-tracked_wider : (h : Home) (c : Core) → Tracked c → Tracked (wider h c)
+pub tracked_wider : (h : Home) (c : Core) → Tracked c → Tracked (wider h c)
 tracked_wider h c t = record {
   size = t.size;
   vacant = t.vacant;
@@ -116,109 +116,20 @@ tracked_wider h c t = record {
 module _ (path : ℕ) (name : Name) (named : name.path ≡ path) where
   -- the nets after one more, on the graph
   module _ (g : Graph) (homes : List Home) (r : Rest path homes g) (N : ℕ → ℕ) (fr : Fresh g N) (t : FlatNet) (fine : NetFine t) where
-    h : Graph
+    unfoldable pub h : Graph
     h = foldl apply g (load_net N name (length homes) t)
 
-    home : Home
+    unfoldable pub home : Home
     home = record { name = t.name; free = N 0 }
-
-    old_frame : (n : ℕ) → filled g n ≡ true → frame h n ≡ frame g n
-    unfolding h apply_script
-    old_frame n f =
-        frame_kept g (loaded g r.well N fr (length homes) name t fine.ordered fine.wired) (F g r.well N fr (length homes) name t fine.ordered fine.wired) r.well
-        (loaded_tidy g r.well N fr (length homes) name t fine.ordered fine.wired) n f Memᴰ.not-nil
-
-    old_wire : (p q : Port) → across g p ≡ some q → across h p ≡ some q
-    unfolding h apply_script
-    old_wire p q e =
-        wire_kept g (loaded g r.well N fr (length homes) name t fine.ordered fine.wired) (F g r.well N fr (length homes) name t fine.ordered fine.wired) r.well
-        (loaded_tidy g r.well N fr (length homes) name t fine.ordered fine.wired) p q e Memᴰ.not-nil Memᴰ.not-nil
-
-    one_more : Rest path (homes ++ home ∷ []) h
-    unfolding h apply_script home
-    one_more = record {
-      well = tidy_wired g (loaded g r.well N fr (length homes) name t fine.ordered fine.wired) (F g r.well N fr (length homes) name t fine.ordered fine.wired) r.well
-          (loaded_tidy g r.well N fr (length homes) name t fine.ordered fine.wired);
-      ported = ported_kept g (loaded g r.well N fr (length homes) name t fine.ordered fine.wired) (F g r.well N fr (length homes) name t fine.ordered fine.wired) r.well
-          (loaded_tidy g r.well N fr (length homes) name t fine.ordered fine.wired) r.ported;
-      free = λ k x e. free k x (nth_snoc homes home x k e);
-    }
-      where
-        free : (k : ℕ) (x : Home) → (nth homes k ≡ some x) ⊎ ((k ≡ length homes) × (x ≡ home)) → FreeNode path h k x
-        free k x (inl e) =
-            let o = r.free k x e in
-            let s = old_frame x.free (holds_filled g k x.free o.held) in
-            record {
-              held = holds_same g h x.free s k ∙ o.held;
-              wired = old_wire (port x.free 0) (port x.free 1) o.wired;
-              named = ap (λ (m : Name). m.path) (name_same g h x.free s) ∙ o.named;
-            }
-        free k x (inr e) =
-            subst (λ (j : ℕ). FreeNode path h j x) (sym e.0) (subst (FreeNode path h (length homes)) (sym e.1) (record {
-              held = free_held g r.well N fr (length homes) name t fine.ordered fine.wired;
-              wired = free_wired g r.well N fr (length homes) name t fine.ordered fine.wired;
-              named = ap (λ (m : Name). m.path) (free_named_lem g r.well N fr (length homes) name t fine.ordered fine.wired) ∙ named;
-            }))
-
-  -- one net loaded
-  pub net_loaded : (t : FlatNet) (e : Engine) → NetFine t → Loaded path (core_of e) → Then (λ e'. Loaded path (core_of e') × Added name t (core_of e) (core_of e')) (add_flat_net name t e)
-  unfolding add_flat_net fresh core_of h home with_nets
-  net_loaded t e fine l =
-      go (each edit (load_net (fresh e) name (length e.nets) t) e₁)
-      (edits_made e.slots.chain (λ k. length (graph_of e) + k) (length e.nets) (load_net (fresh e) name (length e.nets) t) 0 e₁ t₁ refl in_lists (load_order (fresh e) (length e.nets) name t))
-    where
-      e₁ : Engine
-      e₁ = with_nets (e.nets ++ new_net (record { name = t.name; free = fresh e 0 }) ∷ []) e
-
-      t₁ : Tracked (core_of e₁)
-      t₁ = subst Tracked (sym (core_wider (record { name = t.name; free = fresh e 0 }) e)) (tracked_wider (record { name = t.name; free = fresh e 0 }) (core_of e) l.tracked)
-
-      in_lists : length e.nets < length (core_of e₁).lists
-      in_lists =
-          let a : length (core_of e₁).lists ≡ length ((core_of e).lists ++ [] ∷ []) = ap (λ (c : Core). length c.lists) (core_wider (record { name = t.name; free = fresh e 0 }) e) in
-          let b = length-append (core_of e).lists ([] ∷ []) in
-          let c = length-map e.nets list_of in
-          omega arith
-
-      go : (q : Result Engine) → Then (λ e'. Made (core_of e₁) (load_net (fresh e) name (length e.nets) t) (core_of e')) q
-          → Then (λ e'. Loaded path (core_of e') × Added name t (core_of e) (core_of e')) q
-      go (refuse q) m = tt
-      go (ok e') m = (
-        record { rest = rest; tracked = m.tracked },
-        record {
-          numbers = fresh e;
-          graph = graph';
-          homes = homes';
-          rules = m.same.rules ∙ ap (λ (c : Core). c.rules) (core_wider (record { name = t.name; free = fresh e 0 }) e);
-          old = λ n f. ap (λ (g : Graph). frame g n) graph' ∙ old_frame (core_of e).graph (core_of e).homes l.rest (fresh e) (tracked_fresh e l.tracked) t fine n f;
-          ports = ap (λ (g : Graph). arity g (fresh e 0)) graph' ∙ free_ports (core_of e).graph l.rest.well (fresh e) (tracked_fresh e l.tracked) (length (core_of e).homes) name t fine.ordered fine.wired;
-        },
-      )
-        where
-          count : length e.nets ≡ length (core_of e).homes
-          count = sym (length-map e.nets home_of)
-
-          made : Rest path ((core_of e).homes ++ record { name = t.name; free = fresh e 0 } ∷ []) (foldl apply (core_of e).graph (load_net (fresh e) name (length (core_of e).homes) t))
-          made = one_more (core_of e).graph (core_of e).homes l.rest (fresh e) (tracked_fresh e l.tracked) t fine
-
-          homes' : (core_of e').homes ≡ (core_of e).homes ++ record { name = t.name; free = fresh e 0 } ∷ []
-          homes' = m.same.homes ∙ ap (λ (c : Core). c.homes) (core_wider (record { name = t.name; free = fresh e 0 }) e)
-
-          graph' : (core_of e').graph ≡ foldl apply (core_of e).graph (load_net (fresh e) name (length (core_of e).homes) t)
-          graph' = m.graph ∙ ap (λ (n : ℕ). foldl apply (graph_of e) (load_net (fresh e) name n t)) count
-
-          rest : Rest path (core_of e').homes (core_of e').graph
-          rest = subst (λ (hs : List Home). Rest path hs (core_of e').graph) (sym homes')
-              (subst (Rest path ((core_of e).homes ++ record { name = t.name; free = fresh e 0 } ∷ [])) (sym graph') made)
 
 -- ---- first entries
 
-last_list : (ls : List (List ℕ)) → get_or (ls ++ [] ∷ []) (length ls) [] ≡ []
+pub last_list : (ls : List (List ℕ)) → get_or (ls ++ [] ∷ []) (length ls) [] ≡ []
 last_list [] = refl
 last_list (l ∷ ls) = last_list ls
 
 -- the first node of a new net is its free node
-wider_first : (c : Core) (n : ℕ) (name : Name) (t : FlatNet) → length c.lists ≡ length c.homes → Firsts c
+pub wider_first : (c : Core) (n : ℕ) (name : Name) (t : FlatNet) → length c.lists ≡ length c.homes → Firsts c
     → Firsts (placed_in n (new (length c.lists) name (2 + length t.free)) (wider (record { name = t.name; free = n }) c))
 unfolding new
 wider_first c n name t m f k h e = go (nth_snoc c.homes (record { name = t.name; free = n }) h k e)

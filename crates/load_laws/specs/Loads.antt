@@ -28,7 +28,7 @@ use Rattle.script_laws.proofs.Tidy.{tidy_wired, wire_kept}
 use Rattle.rule_laws.specs.Places.{Ported, new_holes}
 use Rattle.load_laws.specs.Meets.{of_wire, of_wire_append, of_wire_mem, PortsApart, Joined, UsedBy, meets_safe}
 use Rattle.load_laws.specs.Ends.{ends_mem, ends_at_lem, ends_apart, frame_join_met, node_ends, met_after, met_kept, all_ends, all_count}
-use Rattle.load_laws.specs.Net.{new_frame, nodes_safe}
+use Rattle.load_laws.specs.Net.{new_frame}
 
 module _ (g : Graph) (w : WellWired g) (N : ℕ → ℕ) (fr : Fresh g N) (k : ℕ) (name : Name) (t : FlatNet) (ordered : pairs_ordered t.pairs ≡ true) (wired : flat_wired t ≡ true) where
   abbrev pub f : ℕ
@@ -59,14 +59,14 @@ module _ (g : Graph) (w : WellWired g) (N : ℕ → ℕ) (fr : Fresh g N) (k : �
   loaded = record { edits = load_net N name k t; dead = [] }
 
   -- every end is joined in the end
-  joined_all : (y : End) → Memᴰ y all → F y.1
+  pub joined_all : (y : End) → Memᴰ y all → F y.1
   joined_all y m = right (record { end = y; mem = m; port = refl; two = two (all_count t N ordered wired y.0) })
     where
       two : (of_wire y.0 all ≡ 0) ⊎ (of_wire y.0 all ≡ 2) → 2 ≤ of_wire y.0 all
       two (inl e) = let z = of_wire_mem y.0 all y m refl in absurd (omega arith)
       two (inr e) = omega arith
 
-  new₁ : frame g₁ f ≡ some (record { net = k; name = name; size = 2 + length t.free })
+  pub new₁ : frame g₁ f ≡ some (record { net = k; name = name; size = 2 + length t.free })
   new₁ = new_frame g f k name (2 + length t.free)
 
   pub new₂ : frame g₂ f ≡ some (record { net = k; name = name; size = 2 + length t.free })
@@ -75,100 +75,62 @@ module _ (g : Graph) (w : WellWired g) (N : ℕ → ℕ) (fr : Fresh g N) (k : �
   pub arity₁ : arity g₁ f ≡ 2 + length t.free
   arity₁ = arity_frame g₁ f ∙ ap (λ (o : Option Frame). (or_else o no_frame).size) new₁
 
-  arity₂ : arity g₂ f ≡ 2 + length t.free
+  pub arity₂ : arity g₂ f ≡ 2 + length t.free
   arity₂ = arity_frame g₂ f ∙ ap (λ (o : Option Frame). (or_else o no_frame).size) new₂
 
-  net₂ : (at g₂ f).net ≡ k
+  pub net₂ : (at g₂ f).net ≡ k
   net₂ = net_frame g₂ f ∙ ap (λ (o : Option Frame). (or_else o no_frame).net) new₂
 
-  size₀ : length x₀.ports ≡ 2 + length t.free
+  pub size₀ : length x₀.ports ≡ 2 + length t.free
   unfolding new
   size₀ = length-replicate (2 + length t.free) none
 
-  off_b : (i a : ℕ) → 1 ≤ i → ¬ B (port (N i) a)
+  pub off_b : (i a : ℕ) → 1 ≤ i → ¬ B (port (N i) a)
   off_b i a l (was u) = u
   off_b i a l (first e) = let z = fr.apart i 0 (ap (λ (p : Port). p.node) e) in omega arith
   off_b i a l (second e) = let z = fr.apart i 0 (ap (λ (p : Port). p.node) e) in omega arith
 
-  off_free : (a : ℕ) → 2 ≤ a → ¬ B (port f a)
+  pub off_free : (a : ℕ) → 2 ≤ a → ¬ B (port f a)
   off_free a l (was u) = u
   off_free a l (first e) = let z : a ≡ 0 = ap (λ (p : Port). p.index) e in omega arith
   off_free a l (second e) = let z : a ≡ 1 = ap (λ (p : Port). p.index) e in omega arith
 
   -- the ends of the free node
   module _ (y : End) (m : Memᴰ y ends₀) where
-    end_is : (a : ℕ) × (2 ≤ a) × (a < 2 + length t.free) × (y.1 ≡ port f a)
+    pub end_is : (a : ℕ) × (2 ≤ a) × (a < 2 + length t.free) × (y.1 ≡ port f a)
     end_is = ends_mem t f t.free 2 y m
 
-    end_real : Real g₂ y.1
+    pub end_real : Real g₂ y.1
     end_real = subst (Real g₂) (sym end_is.3) (let z = end_is.2 in omega (arith, arity₂))
 
-    end_net : (at g₂ y.1.node).net ≡ k
+    pub end_net : (at g₂ y.1.node).net ≡ k
     end_net = ap (λ (p : Port). (at g₂ p.node).net) end_is.3 ∙ net₂
 
-    end_off : ¬ B y.1
+    pub end_off : ¬ B y.1
     end_off b = off_free end_is.0 end_is.1 (subst B end_is.3 b)
 
-  most : (w : ℕ) → of_wire w all ≤ 2
+  pub most : (w : ℕ) → of_wire w all ≤ 2
   most w = go (all_count t N ordered wired w)
     where
       go : (of_wire w all ≡ 0) ⊎ (of_wire w all ≡ 2) → of_wire w all ≤ 2
       go (inl e) = omega arith
       go (inr e) = omega arith
 
-  count_kept : (w : ℕ) (ys : List FlatNode) (ms : List End) (i : ℕ) → of_wire w ms ≤ of_wire w (met_after t N ms i ys)
+  pub count_kept : (w : ℕ) (ys : List FlatNode) (ms : List End) (i : ℕ) → of_wire w ms ≤ of_wire w (met_after t N ms i ys)
   count_kept w [] ms i = omega arith
   count_kept w (y ∷ ys) ms i =
       let a = count_kept w ys (node_ends t N i y ++ ms) (1 + i) in let b = of_wire_append w (node_ends t N i y) ms in omega arith
 
-  free_safe : Safe F g₂ (UsedBy B []) (join_met [] ends₀) (UsedBy B ends₀)
-  free_safe =
-      subst (λ (l : List End). Safe F g₂ (UsedBy B []) (join_met [] ends₀) (UsedBy B l)) (append-nil ends₀)
-      (meets_safe B F k ends₀ [] g₂ (record {
-        real = λ y m. end_real y (in_ends y m);
-        in_net = λ y m. end_net y (in_ends y m);
-        off = λ y m. end_off y (in_ends y m);
-        ports = subst PortsApart (sym (append-nil ends₀)) (ends_apart t f t.free 2);
-        most = λ v. let a : of_wire v (ends₀ ++ []) ≡ of_wire v ends₀ = ap (of_wire v) (append-nil ends₀) in let b = count_kept v t.nodes ends₀ 1 in let c = most v in omega arith;
-      }))
-    where
-      in_ends : (y : End) → Memᴰ y (ends₀ ++ []) → Memᴰ y ends₀
-      in_ends y m = subst (Memᴰ y) (append-nil ends₀) m
-
-  abbrev g₃ : Graph
+  abbrev pub g₃ : Graph
   g₃ = foldl apply g₂ (join_met [] ends₀)
 
-  same₃ : (n : ℕ) → frame g₃ n ≡ frame g₂ n
+  pub same₃ : (n : ℕ) → frame g₃ n ≡ frame g₂ n
   same₃ n = frame_join_met ends₀ [] g₂ n
 
-  other₂ : (n : ℕ) → n ≢ f → frame g₂ n ≡ frame g n
+  pub other₂ : (n : ℕ) → n ≢ f → frame g₂ n ≡ frame g n
   other₂ n h = frame_join g₁ (port f 0) (port f 1) n ∙ frame_fill_other g f n x₀ h
 
-  rest_safe : Safe F g₃ (UsedBy B ends₀) (load_nodes N t k ends₀ 1 t.nodes) F
-  rest_safe = nodes_safe t N fr.apart k B F t.nodes ends₀ 1 g₃ (record {
-    vacant = λ i l. filled_same g g₃ (N i) (same₃ (N i) ∙ other₂ (N i) (λ e. let q = fr.apart i 0 e in omega arith)) ∙ fr.vacant i;
-    below = λ y m. (0, omega arith, ap (λ (p : Port). p.node) (end_is y m).3);
-    real = λ y m. rw (arity_same g₂ g₃ y.1.node (same₃ y.1.node)) (end_real y m);
-    in_net = λ y m. net_same g₂ g₃ y.1.node (same₃ y.1.node) ∙ end_net y m;
-    off = end_off;
-    off_new = off_b;
-    ports = ends_apart t f t.free 2;
-    most = most;
-    later = joined_all;
-  })
-
-  -- after the free node and its own wire
-  pub after_safe : Safe F g₂ B (join_met [] ends₀ ++ load_nodes N t k ends₀ 1 t.nodes) F
-  after_safe =
-      safe_same F (join_met [] ends₀ ++ load_nodes N t k ends₀ 1 t.nodes) g₂ (UsedBy B []) B F
-      (λ r. (only_base r, left))
-      (safe_append F (join_met [] ends₀) (load_nodes N t k ends₀ 1 t.nodes) g₂ (UsedBy B []) (UsedBy B ends₀) F free_safe rest_safe)
-    where
-      only_base : (r : Port) → UsedBy B [] r → B r
-      only_base r (left b) = b
-      only_base r (right j) = absurd (Memᴰ.not-nil j.mem)
-
-  free_later : (i : ℕ) → i < length x₀.ports → F (port f i)
+  pub free_later : (i : ℕ) → i < length x₀.ports → F (port f i)
   free_later zero l = left (first refl)
   free_later (suc zero) l = left (second refl)
   free_later (suc (suc a)) l =
@@ -176,7 +138,7 @@ module _ (g : Graph) (w : WellWired g) (N : ℕ → ℕ) (fr : Fresh g N) (k : �
       subst F z.2 (joined_all z.0 (met_kept t N t.nodes ends₀ 1 z.0 z.1))
 
   -- where an end is
-  end_node : (xs : List FlatNode) (met : List End) (j : ℕ) → ((y : End) → Memᴰ y met → (i : ℕ) × (y.1.node ≡ N i)) → (y : End) → Memᴰ y (met_after t N met j xs) → (i : ℕ) × (y.1.node ≡ N i)
+  pub end_node : (xs : List FlatNode) (met : List End) (j : ℕ) → ((y : End) → Memᴰ y met → (i : ℕ) × (y.1.node ≡ N i)) → (y : End) → Memᴰ y (met_after t N met j xs) → (i : ℕ) × (y.1.node ≡ N i)
   end_node [] met j h y m = h y m
   end_node (x ∷ xs) met j h y m = end_node xs (node_ends t N j x ++ met) (1 + j) (λ z n. go z (Memᴰ.append_cases (node_ends t N j x) n)) y m
     where
@@ -184,31 +146,10 @@ module _ (g : Graph) (w : WellWired g) (N : ℕ → ℕ) (fr : Fresh g N) (k : �
       go z (inl n) = (j, ap (λ (p : Port). p.node) (ends_mem t (N j) (x.pri ∷ x.aux) 0 z n).3)
       go z (inr n) = h z n
 
-  used_new : (r : Port) → F r → filled g r.node ≡ false
+  pub used_new : (r : Port) → F r → filled g r.node ≡ false
   used_new r (left (was u)) = absurd u
   used_new r (left (first e)) = ap (λ (p : Port). filled g p.node) e ∙ fr.vacant 0
   used_new r (left (second e)) = ap (λ (p : Port). filled g p.node) e ∙ fr.vacant 0
   used_new r (right j) =
       let z = end_node t.nodes ends₀ 1 (λ y m. (0, ap (λ (p : Port). p.node) (end_is y m).3)) j.end j.mem in
       ap (λ (p : Port). filled g p.node) j.port ∙ ap (filled g) z.1 ∙ fr.vacant z.0
-
-  pub loaded_tidy : Tidy g loaded F
-  unfolding load_net apply
-  loaded_tidy = record {
-    safe = (
-      record { vacant = fr.vacant 0; holes = new_holes k name (2 + length t.free); some_port = let s = size₀ in omega arith; later = free_later },
-      (
-        record {
-          real_a = omega (arith, arity₁);
-          real_b = omega (arith, arity₁);
-          differ = λ e. let z : ◌≡◌ {A = ℕ} 0 1 = ap (λ (p : Port). p.index) e in omega arith;
-          one_net = refl;
-          unused_a = λ u. u;
-          unused_b = λ u. u;
-        },
-        after_safe,
-      ),
-    );
-    gone = λ n d. absurd (Memᴰ.not-nil d);
-    only = λ r z. inr (used_new r z);
-  }

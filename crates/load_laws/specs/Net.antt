@@ -43,34 +43,34 @@ module _ (t : FlatNet) (N : ℕ → ℕ) (apart : (i j : ℕ) → N i ≡ N j �
     pub later : (y : End) → Memᴰ y (met_after t N met j xs) → F y.1
 
   module _ (g : Graph) (met : List End) (j : ℕ) (x : FlatNode) (xs : List FlatNode) (f : NodesFit g met j (x ∷ xs)) where
-    abbrev ends : List End
+    abbrev pub ends : List End
     ends = node_ends t N j x
 
-    abbrev node : Node
+    abbrev pub node : Node
     node = new k x.name (length ends)
 
-    abbrev g₁ : Graph
+    abbrev pub g₁ : Graph
     g₁ = fill g (N j) node
 
-    abbrev g₂ : Graph
+    abbrev pub g₂ : Graph
     g₂ = foldl apply g₁ (join_met met ends)
 
-    size : length ends ≡ suc (length x.aux)
+    pub size : length ends ≡ suc (length x.aux)
     size = ends_length t (N j) (x.pri ∷ x.aux) 0
 
-    new₁ : frame g₁ (N j) ≡ some (record { net = k; name = x.name; size = length ends })
+    pub new₁ : frame g₁ (N j) ≡ some (record { net = k; name = x.name; size = length ends })
     new₁ = new_frame g (N j) k x.name (length ends)
 
-    other₁ : (n : ℕ) → n ≢ N j → frame g₁ n ≡ frame g n
+    pub other₁ : (n : ℕ) → n ≢ N j → frame g₁ n ≡ frame g n
     other₁ n h = frame_fill_other g (N j) n node h
 
-    same₂ : (n : ℕ) → frame g₂ n ≡ frame g₁ n
+    pub same₂ : (n : ℕ) → frame g₂ n ≡ frame g₁ n
     same₂ n = frame_join_met ends met g₁ n
 
-    off_j : (y : End) → Memᴰ y met → y.1.node ≢ N j
+    pub off_j : (y : End) → Memᴰ y met → y.1.node ≢ N j
     off_j y m e = let z = f.below y m in let q = apart z.0 j (sym z.2 ∙ e) in let l = z.1 in omega arith
 
-    real₁ : (y : End) → Memᴰ y (ends ++ met) → Real g₁ y.1
+    pub real₁ : (y : End) → Memᴰ y (ends ++ met) → Real g₁ y.1
     real₁ y m = go (Memᴰ.append_cases ends m)
       where
         go : Memᴰ y ends ⊎ Memᴰ y met → Real g₁ y.1
@@ -79,7 +79,7 @@ module _ (t : FlatNet) (N : ℕ → ℕ) (apart : (i j : ℕ) → N i ≡ N j �
             subst (Real g₁) (sym z.3) (rw (arity_frame g₁ (N j) ∙ ap (λ (o : Option Frame). (or_else o no_frame).size) new₁) (let q = z.2 in let s = size in omega arith))
         go (inr n) = rw (arity_same g g₁ y.1.node (other₁ y.1.node (off_j y n))) (f.real y n)
 
-    net₁ : (y : End) → Memᴰ y (ends ++ met) → (at g₁ y.1.node).net ≡ k
+    pub net₁ : (y : End) → Memᴰ y (ends ++ met) → (at g₁ y.1.node).net ≡ k
     net₁ y m = go (Memᴰ.append_cases ends m)
       where
         go : Memᴰ y ends ⊎ Memᴰ y met → (at g₁ y.1.node).net ≡ k
@@ -88,22 +88,22 @@ module _ (t : FlatNet) (N : ℕ → ℕ) (apart : (i j : ℕ) → N i ≡ N j �
             ap (λ (p : Port). (at g₁ p.node).net) z.3 ∙ net_frame g₁ (N j) ∙ ap (λ (o : Option Frame). (or_else o no_frame).net) new₁
         go (inr n) = net_same g g₁ y.1.node (other₁ y.1.node (off_j y n)) ∙ f.in_net y n
 
-    off₁ : (y : End) → Memᴰ y (ends ++ met) → ¬ B y.1
+    pub off₁ : (y : End) → Memᴰ y (ends ++ met) → ¬ B y.1
     off₁ y m = go (Memᴰ.append_cases ends m)
       where
         go : Memᴰ y ends ⊎ Memᴰ y met → ¬ B y.1
         go (inl n) b = let z = ends_mem t (N j) (x.pri ∷ x.aux) 0 y n in f.off_new j z.0 (omega arith) (subst B z.3 b)
         go (inr n) b = f.off y n b
 
-    ports₁ : PortsApart (ends ++ met)
+    pub ports₁ : PortsApart (ends ++ met)
     ports₁ = apart_append ends met (ends_apart t (N j) (x.pri ∷ x.aux) 0) f.ports
         (λ u y m n e. let z = ends_mem t (N j) (x.pri ∷ x.aux) 0 u m in off_j y n (ap (λ (p : Port). p.node) (e ∙ z.3)))
 
-    count_kept : (w : ℕ) (ys : List FlatNode) (ms : List End) (i : ℕ) → of_wire w ms ≤ of_wire w (met_after t N ms i ys)
+    pub count_kept : (w : ℕ) (ys : List FlatNode) (ms : List End) (i : ℕ) → of_wire w ms ≤ of_wire w (met_after t N ms i ys)
     count_kept w [] ms i = omega arith
     count_kept w (y ∷ ys) ms i = let a = count_kept w ys (node_ends t N i y ++ ms) (1 + i) in let b = of_wire_append w (node_ends t N i y) ms in omega arith
 
-    meets_fit : MeetsFit B k g₁ met ends
+    pub meets_fit : MeetsFit B k g₁ met ends
     meets_fit = record {
       real = real₁;
       in_net = net₁;
@@ -112,7 +112,7 @@ module _ (t : FlatNet) (N : ℕ → ℕ) (apart : (i j : ℕ) → N i ≡ N j �
       most = λ w. let a = count_kept w xs (ends ++ met) (1 + j) in let b = f.most w in omega arith;
     }
 
-    next_fit : NodesFit g₂ (ends ++ met) (1 + j) xs
+    pub next_fit : NodesFit g₂ (ends ++ met) (1 + j) xs
     next_fit = record {
       vacant = λ i l. filled_same g g₂ (N i) (same₂ (N i) ∙ other₁ (N i) (λ e. let q = apart i j e in omega arith)) ∙ f.vacant i (omega arith);
       below = λ y m. below y (Memᴰ.append_cases ends m);
@@ -129,7 +129,7 @@ module _ (t : FlatNet) (N : ℕ → ℕ) (apart : (i j : ℕ) → N i ≡ N j �
         below y (inl n) = (j, omega arith, ap (λ (p : Port). p.node) (ends_mem t (N j) (x.pri ∷ x.aux) 0 y n).3)
         below y (inr n) = let z = f.below y n in (z.0, (let l = z.1 in omega arith), z.2)
 
-    node_later : (i : ℕ) → i < length node.ports → F (port (N j) i)
+    pub node_later : (i : ℕ) → i < length node.ports → F (port (N j) i)
     unfolding new
     node_later i l =
         let s = size in
@@ -137,22 +137,6 @@ module _ (t : FlatNet) (N : ℕ → ℕ) (apart : (i j : ℕ) → N i ≡ N j �
         let z = ends_at_lem t (N j) (x.pri ∷ x.aux) 0 i (omega arith) (omega arith) in
         subst F z.2 (f.later z.0 (met_kept t N xs (ends ++ met) (1 + j) z.0 (Memᴰ.append_left met z.1)))
 
-    some_port : 0 < length node.ports
+    pub some_port : 0 < length node.ports
     unfolding new
     some_port = let s = size in let q : length node.ports ≡ length ends = length-replicate (length ends) none in omega arith
-
-  pub nodes_safe : (xs : List FlatNode) (met : List End) (j : ℕ) (g : Graph) → NodesFit g met j xs → Safe F g (UsedBy B met) (load_nodes N t k met j xs) (UsedBy B (met_after t N met j xs))
-  unfolding load_nodes apply
-  nodes_safe [] met j g f = λ r. (λ u. u, λ u. u)
-  nodes_safe (x ∷ xs) met j g f = (
-    record {
-      vacant = f.vacant j (omega arith);
-      holes = new_holes k x.name (length (node_ends t N j x));
-      some_port = some_port g met j x xs f;
-      later = node_later g met j x xs f;
-    },
-    safe_append F (join_met met (node_ends t N j x)) (load_nodes N t k (node_ends t N j x ++ met) (1 + j) xs) (g₁ g met j x xs f)
-        (UsedBy B met) (UsedBy B (node_ends t N j x ++ met)) (UsedBy B (met_after t N met j (x ∷ xs)))
-        (meets_safe B F k (node_ends t N j x) met (g₁ g met j x xs f) (meets_fit g met j x xs f))
-        (nodes_safe xs (node_ends t N j x ++ met) (1 + j) (g₂ g met j x xs f) (next_fit g met j x xs f)),
-  )

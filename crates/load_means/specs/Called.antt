@@ -49,40 +49,40 @@ none_called z = record { low = λ k h. absurd (omega arith); is = λ k h. absurd
 
 module _ (ws : List ℕ) (hs : List Home) (file : List ℕ) (at : ℕ) (h : Home) (c : Called ws hs) (named : be16 file at ≡ h.name) (low : h.name < 1024)
     (new : (k : ℕ) → k < length hs → (get_or hs k no_home).name ≢ h.name) (count : get_or ws 7 0 ≡ length hs) (few : length hs < 256) (long : 5184 ≤ length ws) where
-  size : length (hs ++ h ∷ []) ≡ suc (length hs)
+  pub size : length (hs ++ h ∷ []) ≡ suc (length hs)
   size = length-append hs (h ∷ []) ∙ omega arith
 
-  next_is : next (get_or ws 7 0) ≡ length hs + 1
+  pub next_is : next (get_or ws 7 0) ≡ length hs + 1
   next_is = omega arith
 
-  w1 : List ℕ
+  pub w1 : List ℕ
   w1 = set ws 7 (length hs + 1)
 
-  w2 : List ℕ
+  pub w2 : List ℕ
   w2 = set w1 (64 + h.name) (length hs + 1)
 
-  w_is : new_net_words ws file at ≡ set w2 (net_at_words (length hs + 1) 0) h.name
+  pub w_is : new_net_words ws file at ≡ set w2 (net_at_words (length hs + 1) 0) h.name
   unfolding new_net_words w2 w1
   w_is = rw (next_is, named) refl
 
   -- the new net's name
-  there : get_or (new_net_words ws file at) (64 + h.name) 0 ≡ length hs + 1
+  pub there : get_or (new_net_words ws file at) (64 + h.name) 0 ≡ length hs + 1
   unfolding w2 w1
   there =
       let a = length-set ws 7 (length hs + 1) in
       rw w_is (get_or-set_other w2 (net_at_words (length hs + 1) 0) (64 + h.name) h.name 0 (omega arith) ∙ get_or-set_same w1 (64 + h.name) (length hs + 1) 0 (omega arith))
 
   -- another name
-  other : (n : ℕ) → n < 1024 → n ≢ h.name → get_or (new_net_words ws file at) (64 + n) 0 ≡ get_or ws (64 + n) 0
+  pub other : (n : ℕ) → n < 1024 → n ≢ h.name → get_or (new_net_words ws file at) (64 + n) 0 ≡ get_or ws (64 + n) 0
   unfolding w2 w1
   other n l d =
       rw w_is (get_or-set_other w2 (net_at_words (length hs + 1) 0) (64 + n) h.name 0 (omega arith) ∙ get_or-set_other w1 (64 + h.name) (64 + n) (length hs + 1) 0 (omega arith)
       ∙ get_or-set_other ws 7 (64 + n) (length hs + 1) 0 (omega arith))
 
-  old_home : (k : ℕ) → k < length hs → get_or (hs ++ h ∷ []) k no_home ≡ get_or hs k no_home
+  pub old_home : (k : ℕ) → k < length hs → get_or (hs ++ h ∷ []) k no_home ≡ get_or hs k no_home
   old_home k l = get_or-append hs (h ∷ []) no_home k l
 
-  new_home : get_or (hs ++ h ∷ []) (length hs) no_home ≡ h
+  pub new_home : get_or (hs ++ h ∷ []) (length hs) no_home ≡ h
   new_home = get_or-append_seam hs h [] no_home
 
   pub new_net_called : Called (new_net_words ws file at) (hs ++ h ∷ [])
@@ -114,7 +114,7 @@ module _ (ws : List ℕ) (hs : List Home) (file : List ℕ) (at : ℕ) (h : Home
 
 -- ---- a net found by its name
 
-row_mem : (n k i : ℕ) → k ≤ i → i < k + n → Memᴰ i (from k n)
+pub row_mem : (n k i : ℕ) → k ≤ i → i < k + n → Memᴰ i (from k n)
 row_mem zero k i a b = absurd (omega arith)
 row_mem (suc n) k i a b = go (ℕ_discrete i k) (λ e. row_mem n (suc k) i (omega arith) (omega arith))
   where
@@ -122,7 +122,7 @@ row_mem (suc n) k i a b = go (ℕ_discrete i k) (λ e. row_mem n (suc k) i (omeg
     go (yes e) f = Memᴰ.head e
     go (no e) f = Memᴰ.tail (f e)
 
-mem_row : (n k i : ℕ) → Memᴰ i (from k n) → (k ≤ i) × (i < k + n)
+pub mem_row : (n k i : ℕ) → Memᴰ i (from k n) → (k ≤ i) × (i < k + n)
 mem_row zero k i m = absurd (Memᴰ.not-nil m)
 mem_row (suc n) k i m = go (Memᴰ.cases_cons m) (λ q. mem_row n (suc k) i q)
   where
@@ -158,8 +158,3 @@ by_name ws e c name = go (find (λ k. eqb (get_or e.nets k no_net).home.name nam
             sym (lt_yes name 1024 (get_or ws (64 + name) 0) 0 h refl)
             ∙ c.none name h (λ k i d. let s = size in true≢false (sym (eq-eqb (get_or e.nets k no_net).home.name name (sym (name_at k) ∙ d))
             ∙ find_none (λ k. eqb (get_or e.nets k no_net).home.name name) (up_to (length e.nets)) q k (row_mem (length e.nets) 0 k (omega arith) (omega arith))))
-
--- the word itself, for a name of the table
-pub called_word : (ws : List ℕ) (e : Engine) → Called ws (homes e) → (name : ℕ) → name < 1024 → get_or ws (64 + name) 0 ≡ net_word (get_net e name)
-unfolding net_by_name
-called_word ws e c name h = lt_yes name 1024 (get_or ws (64 + name) 0) 0 h refl ∙ by_name ws e c name

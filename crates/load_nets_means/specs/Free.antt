@@ -37,7 +37,7 @@ use Rattle.means.specs.Means.{number}
 use Rattle.means.specs.Frame.{rest_trans}
 use Rattle.script_means.specs.Dead.{dead_keep}
 use Rattle.wire_ends_means.specs.Table.{Table, links}
-use Rattle.wire_ends_means.specs.Wires.{join_wires_met}
+use Rattle.wire_ends_means.proofs.Wires.{join_wires_met}
 use Rattle.load_nodes_means.specs.Kept.{kept_net}
 use Rattle.load_nodes_means.specs.Laid.{Laid, useds, laid_links}
 use Rattle.load_nodes_means.specs.Puts.{Puts, puts}

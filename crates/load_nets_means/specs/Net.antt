@@ -37,9 +37,12 @@ use Rattle.step_laws.specs.Numbers.{tracked_fresh}
 use Rattle.load_laws.specs.Twice.{apart}
 use Rattle.load_laws.specs.Meets.{of_wire}
 use Rattle.load_laws.specs.Ends.{all_ends, all_count}
-use Rattle.load_laws.specs.Loads.{F, loaded_tidy}
+use Rattle.load_laws.specs.Loads.{F}
+use Rattle.load_laws.proofs.Loads.{loaded_tidy}
 use Rattle.load_laws.specs.Loaded as Laws
-use Rattle.load_laws.specs.Loaded.{Loaded, net_loaded}
+use Rattle.load_laws.proofs.Loaded as LawsProofs
+use Rattle.load_laws.specs.Loaded.{Loaded}
+use Rattle.load_laws.proofs.Loaded.{net_loaded}
 use Rattle.means.specs.Means.{Means}
 use Rattle.script_means.specs.Dead.{dead_none}
 use Rattle.wire_ends_means.specs.Table.{Table}

@@ -34,7 +34,8 @@ use Rattle.load_laws.specs.Meets.{of_wire}
 use Rattle.load_laws.specs.Ends.{ends_length, met_after, met_count}
 use Rattle.means.specs.Means.{number}
 use Rattle.wire_ends_means.specs.Table.{Table, links}
-use Rattle.wire_ends_means.specs.Wires.{Numbers, Fit, join_more, join_wires_met}
+use Rattle.wire_ends_means.specs.Wires.{Numbers, Fit}
+use Rattle.wire_ends_means.proofs.Wires.{join_more, join_wires_met}
 use Rattle.load_nodes_means.specs.Laid.{Laid, useds, Joins, laid_links}
 use Rattle.load_nodes_means.specs.Puts.{Puts, puts}
 

@@ -27,7 +27,7 @@ use Rattle.seen_means.specs.Seen.{FreePlaces}
 use Rattle.run_means.specs.Count.{LimitFits}
 use Rattle.acts_means.specs.Holds.{free_path_of, Holds}
 use Rattle.load_means.specs.Start.{Fresh}
-use Rattle.load_means.specs.Called.{called_word}
+use Rattle.load_means.proofs.Called.{called_word}
 use Rattle.load_nets_means.specs.Net.{Loads}
 use Rattle.load_nets_means.specs.Nets.{NetsDone}
 use Rattle.load_file_means.specs.File.{load_read_means}

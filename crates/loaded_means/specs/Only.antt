@@ -22,7 +22,8 @@ use Rattle.script_laws.specs.Slots.{frame_fill_other}
 use Rattle.graph_laws.specs.Nodes.{Brings, brings_append}
 use Rattle.step_laws.specs.Core.{Core, core_of}
 use Rattle.step_laws.specs.Edits.{Then}
-use Rattle.load_laws.specs.Loaded.{Loaded, NetFine, Added, net_loaded}
+use Rattle.load_laws.specs.Loaded.{Loaded, NetFine, Added}
+use Rattle.load_laws.proofs.Loaded.{net_loaded}
 use Rattle.places_means.specs.Brought.{Differs, Has, script_has}
 use Rattle.places_means.specs.Starred.{is_free}
 

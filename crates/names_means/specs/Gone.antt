@@ -22,7 +22,7 @@ use Rattle.means.specs.Means.{Means}
 use Rattle.means.specs.Frame.{rest_trans}
 use Rattle.script_means.specs.Dead.{Dead}
 use Rattle.script_means.specs.Tries.{net_read}
-use Rattle.removal_means.specs.Remove.{remove_means}
+use Rattle.removal_means.proofs.Remove.{remove_means}
 use Rattle.removal_means.specs.Room.{can_remove}
 use Rattle.removal_means.specs.Kept as Low
 use Rattle.names_means.specs.Kept.{Kept, kept_all, past, before, tighten_net_names}

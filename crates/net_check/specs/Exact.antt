@@ -32,6 +32,7 @@ use Rattle.orders_laws.specs.Trees.{names_ascend}
 use Rattle.wiring_nets.specs.Nets as flatly
 use Rattle.wiring_tree_nets.specs.Nets as treely
 use Rattle.wiring_laws.specs.Nets as flatlaws
+use Rattle.wiring_laws.proofs.Nets as flatlawsProofs
 use Rattle.wiring_tree_laws.specs.Nets as treelaws
 use Rattle.checks.specs.Checks as offset
 use Rattle.checks_laws.specs.Laws.{tables_differ_lem, free_is_named}
@@ -92,7 +93,7 @@ module _ (s : List ℕ) (b : (i : ℕ) → get_or s i 0 < 256) where
       ∙ later_exact flat (body_at flat_net_at flat_net_end s) (drop (body_end flat_net_at flat_net_end s) s) _ _ _ _
       (tables_differ_lem read_flat_net flat_net_at flat_net_end s g b)
       (nets_ordered_lem s (be16 s 9) _ (be16 s (net_count_at s)) (net_count_at s + 2) _ t.rest t.read t.inside t.few)
-      (λ o. flatlaws.nets_wired_lem s (be16 s 9) _ (net_count_at s + 2) (be16 s (net_count_at s)) _ t.rest t.read t.inside t.few o)
+      (λ o. flatlawsProofs.nets_wired_lem s (be16 s 9) _ (net_count_at s + 2) (be16 s (net_count_at s)) _ t.rest t.read t.inside t.few o)
       (free_is_named read_flat_net flat_net_at flat_net_end s g)
 
   -- ---- tree nets

@@ -34,7 +34,7 @@ use Rattle.commute.specs.Commute
 use Rattle.script_means.specs.Tries.{Tries, Between}
 use Rattle.annihilate_means.specs.Annihilates.{annihilate_means}
 use Rattle.erase_means.specs.Erases.{erase_means}
-use Rattle.commute_means.specs.Commutes.{commute_means}
+use Rattle.commute_means.proofs.Commutes.{commute_means}
 use Rattle.visit_means.specs.Tells.{Tells}
 use Rattle.seen_means.specs.Seen.{FreePlaces}
 use Rattle.acts_means.specs.Acted.{Untouched, DoneBy, act_tells}

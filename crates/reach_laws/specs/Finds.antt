@@ -28,7 +28,8 @@ use Rattle.repeats_laws.specs.Arrays.{length_insert, insert_low, insert_at, inse
 use Rattle.repeats_laws.specs.Find as searching
 use Rattle.repeats_laws.specs.Find.{Ascends, Missing, looked}
 use Rattle.repeats_laws.specs.Grow.{grown}
-use Rattle.repeats_laws.specs.Names.{name_end_lem, name_same}
+use Rattle.repeats_laws.specs.Names.{name_end_lem}
+use Rattle.repeats_laws.proofs.Names.{name_same}
 use Rattle.repeats_laws.specs.Items.{item_at, item_end, item_same, item_alike}
 use Rattle.conversions.specs.Prune.{number_of}
 use Rattle.prune_laws.specs.Members.{tested, false_true}

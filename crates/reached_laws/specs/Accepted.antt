@@ -18,7 +18,8 @@ use Rattle.graph_laws.specs.Rest.{Rest}
 use Rattle.graph_laws.specs.Nodes.{AllNodes}
 use Rattle.step_laws.specs.Core.{core_of}
 use Rattle.step_laws.specs.Counting.{Counted}
-use Rattle.load_laws.specs.Begin.{Writable, load_ready}
+use Rattle.load_laws.specs.Begin.{Writable}
+use Rattle.load_laws.proofs.Begin.{load_ready}
 use Rattle.good_laws.specs.Good.{Good, rest}
 use Rattle.good_laws.specs.Idle.{Idle}
 use Rattle.good_laws.specs.Edits.{Answers}

@@ -12,7 +12,8 @@ use Rattle.definitions.specs.Calls.{pools_fit}
 use Rattle.graph_laws.proofs.Rest.{step_free_kept}
 use Rattle.graph_laws.specs.Nodes.{AllNodes, step_nodes}
 use Rattle.step_laws.specs.Core.{core_of}
-use Rattle.load_laws.specs.Begin.{Writable, FreePorts, same_map, load_begun}
+use Rattle.load_laws.specs.Begin.{Writable, FreePorts, same_map}
+use Rattle.load_laws.proofs.Begin.{load_begun}
 use Rattle.fuel_laws.specs.Reached.{Reached}
 use Rattle.reached_laws.specs.Runs.{Begins}
 use Rattle.reached_laws.specs.Counted.{reached_core}

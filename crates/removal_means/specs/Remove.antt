@@ -72,7 +72,7 @@ module _ (Named : ℕ → Name → Type 0) (ws : List ℕ) (e : Engine) (m : Mea
   mv = vacate_means Named ws e m n c.slot c.taken
 
   -- the net that the slot's word says
-  net_is : node_word ws n 0 ≡ k + 1
+  pub net_is : node_word ws n 0 ≡ k + 1
   unfolding frame
   net_is = go (get_or (graph_of e) n none) (sym (owner_at (graph_of e) n) ∙ c.there) (m.nodes.slot n c.slot)
     where
@@ -81,61 +81,37 @@ module _ (Named : ℕ → Name → Type 0) (ws : List ℕ) (e : Engine) (m : Mea
       go (some x) q s = let y : x.net ≡ k = cc in s.0 ∙ ap (λ (i : ℕ). i + 1) y
 
   -- a clean node
-  clean_means : Means Named (Edits.went (Edits.vacate ws n) (k + 1)) (settle k (vacated k n e))
+  pub clean_means : Means Named (Edits.went (Edits.vacate ws n) (k + 1)) (settle k (vacated k n e))
   unfolding v vacated more_stale with_slots net_at
   clean_means = went_means Named (Edits.vacate ws n) v mv k c.net c.stale c.inside
 
   -- a dirty one: the dirty list's entry is stale, its net has one less pending
-  v2 : Engine
+  pub v2 : Engine
   v2 = with_dirty (went_stale (is_dirty v) v.dirty) (State.fewer k v)
 
-  list_is : (net_at v2 k).list ≡ (net_at e k).list
+  pub list_is : (net_at v2 k).list ≡ (net_at e k).list
   unfolding v2 v with_slots with_dirty State.fewer with_pending net_at over_net with_nets
   list_is = part_at (λ t. t.list) e (State.fewer k e) (over_part (λ t. t.list) (λ t. with_pending (t.pending - 1) t) k e (λ t. refl)) k
 
-  here2 : k < length v2.nets
+  pub here2 : k < length v2.nets
   unfolding v2 v with_slots with_dirty State.fewer
   here2 = rw (over_length (λ t. with_pending (t.pending - 1) t) k v) c.net
 
-  inside2 : (i : ℕ) → Memᴰ i (net_at v2 k).list.items → i < v2.pools.nodes
+  pub inside2 : (i : ℕ) → Memᴰ i (net_at v2 k).list.items → i < v2.pools.nodes
   unfolding v2 v with_slots with_dirty State.fewer over_net with_nets
   inside2 i h = c.inside i (rw list_is at h)
 
-  m2 : is_dirty e n ≡ true → Means Named (Edits.went_dirty (Edits.vacate ws n) (k + 1)) v2
+  pub m2 : is_dirty e n ≡ true → Means Named (Edits.went_dirty (Edits.vacate ws n) (k + 1)) v2
   unfolding v2 v with_slots net_at
   m2 d =
       subst (λ (x : Engine). Means Named (Edits.went_dirty (Edits.vacate ws n) (k + 1)) x) (went_is k v)
       (went_dirty_means Named (Edits.vacate ws n) v mv k c.net (c.pending d) c.small c.dirty_stale c.dirty_inside)
 
-  late : more_stale k v2 ≡ went_dirty k (vacated k n e)
+  pub late : more_stale k v2 ≡ went_dirty k (vacated k n e)
   unfolding v2 v vacated with_slots more_stale
   late = ap (λ (x : Engine). more_stale k x) (sym (went_is k v)) ∙ sym (went_late k v c.net)
 
-  dirty_means : is_dirty e n ≡ true → Means Named (Edits.went (Edits.went_dirty (Edits.vacate ws n) (k + 1)) (k + 1)) (settle k (went_dirty k (vacated k n e)))
-  dirty_means d =
-      subst (λ (x : Engine). Means Named (Edits.went (Edits.went_dirty (Edits.vacate ws n) (k + 1)) (k + 1)) (settle k x)) late
-      (went_means Named (Edits.went_dirty (Edits.vacate ws n) (k + 1)) v2 (m2 d) k here2 (let s = c.stale in let q : (net_at v2 k).list.stale ≡ (net_at e k).list.stale = ap (λ (l : Ids). l.stale) list_is in omega arith) inside2)
-
   -- the mark that the slot's word says
-  mark_is : (b : Bool) → is_dirty e n ≡ b → node_word ws n 2 ≡ bit b
+  pub mark_is : (b : Bool) → is_dirty e n ≡ b → node_word ws n 2 ≡ bit b
   unfolding is_dirty
   mark_is b d = m.marks.mark n c.slot ∙ ap bit d
-
-  -- what is removed is the node that level Engine removes
-  pub remove_means : Means Named (Edits.remove ws n) (remove_node e n)
-  unfolding Edits.remove remove_node settle
-  remove_means =
-      subst (λ (j : ℕ). Means Named (Edits.remove ws n) (settle j (elim (is_dirty e n) as (λ _. Engine) [ true ↦ went_dirty j (vacated j n e) | false ↦ vacated j n e ])))
-      (sym (net_of (graph_of e) n k c.there)) (rw net_is (go (is_dirty e n) refl))
-    where
-      w1 : List ℕ
-      w1 = Edits.went (Edits.went_dirty (Edits.vacate ws n) (k + 1)) (k + 1)
-
-      w0 : List ℕ
-      w0 = Edits.went (Edits.vacate ws n) (k + 1)
-
-      go : (b : Bool) → is_dirty e n ≡ b → Means Named (if_eq (node_word ws n 2) 1 w1 w0) (settle k (elim b as (λ _. Engine) [ true ↦ went_dirty k (vacated k n e) | false ↦ vacated k n e ]))
-      go true d = subst (λ (w : List ℕ). Means Named w (settle k (went_dirty k (vacated k n e)))) (eq_yes (node_word ws n 2) 1 w1 w0 (mark_is true d) refl) (dirty_means d)
-      go false d =
-          let z : node_word ws n 2 ≡ 0 = mark_is false d in
-          subst (λ (w : List ℕ). Means Named w (settle k (vacated k n e))) (eq_no (node_word ws n 2) 1 w1 w0 (omega arith) refl) clean_means

@@ -29,7 +29,7 @@ pub record Holds (s : List ℕ) (item : Item) (l : List ℕ) (m at : ℕ) (seen 
   pub kept : (j : ℕ) → j < m → seen (item_at s item (get_or l j 0)) ≡ true
   pub only : (y : List ℕ) → seen y ≡ true → (j : ℕ) × (j < m) × (item_at s item (get_or l j 0) ≡ y)
 
-not_true : (t : Bool) → (t ≡ true → ⊥) → t ≡ false
+pub not_true : (t : Bool) → (t ≡ true → ⊥) → t ≡ false
 not_true true h = absurd (h refl)
 not_true false h = refl
 
@@ -66,7 +66,7 @@ module _ (s : List ℕ) (item : Item) (l : List ℕ) (m at p : ℕ) (seen : List
         | no h ↦ (suc q.0, omega arith, rw (insert_high l m p at room v q.0 (omega arith) i) q.2)
       ]
 
-  more_held : Holds s item (insert l m p at) (suc m) (item_end s item at) (λ y. eqs (item_at s item at) y || seen y)
+  pub more_held : Holds s item (insert l m p at) (suc m) (item_end s item at) (λ y. eqs (item_at s item at) y || seen y)
   unfolding item_end
   more_held = record {
     ascends = grown s l m at (size_of s item at) p g.ascends miss room;
@@ -80,69 +80,14 @@ module _ (s : List ℕ) (item : Item) (l : List ℕ) (m at p : ℕ) (seen : List
 module _ (s : List ℕ) (item : Item) where
   -- one item, told apart from those seen or not
   module _ (l : List ℕ) (m at : ℕ) (seen : List ℕ → Bool) (g : Holds s item l m at seen) where
-    abbrev z : ℕ
+    abbrev pub z : ℕ
     z = size_of s item at
 
-    seen_found : (p : ℕ) → Found s l m at z p → seen (item_at s item at) ≡ true
-    seen_found p f = rw (item_same s item at (get_or l f.place 0) f.alike) (g.kept f.place f.inside)
-
-    not_seen : (p : ℕ) → Missing s l m at z p → seen (item_at s item at) ≡ false
-    not_seen p f = not_true (seen (item_at s item at)) (λ e.
-        let q = g.only (item_at s item at) e in
-        let h : Alike s z at (get_or l q.0 0) = item_alike s item at (get_or l q.0 0) (sym q.2) in
-        elim (dec_lt q.0 p) [
-          | yes i ↦ alike_not_before (alike_sym h) (f.below q.0 i)
-          | no i ↦ alike_not_before h (f.above q.0 (omega arith) q.1)
-        ])
-
-  differ_fresh : (k : ℕ) (l : List ℕ) (at m : ℕ) (seen : List ℕ → Bool) → Holds s item l m at seen → m + k ≤ length l → length l ≤ 1024
-      → table_end (item_end s item) at k ≤ length s
-      → differ_in s item l at m k ≡ fresh eqs seen (table_at (item_at s item) (item_end s item) at k)
-  unfolding differ_in fresh table_at table_end item_end
-  differ_fresh zero l at m seen g h r t = refl
-  differ_fresh (suc k) l at m seen g h r t =
-      elim (looked s l m at (size_of s item at) g.ascends fits (λ j i. omega (arith, fits, g.early j i)) (omega arith)) [
-        | inl f ↦
-            sym (lt_no _ _ _ _ fits (pick_true _ _ _ f.told refl))
-            ∙ pick_true _ _ _ (seen_found l m at seen g p f) refl
-        | inr f ↦
-            sym (lt_no _ _ _ _ fits (pick_false _ _ _ f.told refl))
-            ∙ pick_false _ _ _ (not_seen l m at seen g p f) (rw add-one
-            (differ_fresh k (insert l m p at) (item_end s item at) (suc m) (λ y. eqs (item_at s item at) y || seen y)
-            (more_held s item l m at p seen g f (omega arith)) (rw (len f) (omega arith)) (rw (len f) r) t))
-      ]
-    where
-      p : ℕ
-      p = search s l m at (size_of s item at)
-
-      fits : at + size_of s item at ≤ length s
-      fits = let e = after_end s item k (at + size_of s item at) in omega arith
-
-      len : Missing s l m at (size_of s item at) p → length (insert l m p at) ≡ length l
-      len f = length_insert l m p at (omega arith) f.inside
-
 -- nothing is seen at first
-empty : (s : List ℕ) (item : Item) (l : List ℕ) (at : ℕ) → Holds s item l 0 at (λ y. false)
+pub empty : (s : List ℕ) (item : Item) (l : List ℕ) (at : ℕ) → Holds s item l 0 at (λ y. false)
 empty s item l at = record {
   ascends = record { ups = λ i j r t. absurd (omega arith) };
   early = λ j i. absurd (omega arith);
   kept = λ j i. absurd (omega arith);
   only = λ y e. let z : ◌≡◌ {A = ℕ} 0 1 = cc in absurd (omega arith);
 }
-
-module _ (s : List ℕ) (at n : ℕ) (item : Item) (t : table_end (item_end s item) at n ≤ length s) where
-  -- with room for size places
-  differ_by : (size : ℕ) → n ≤ size → size ≤ 1024 → differ_in s item (replicate size 0) at 0 n ≡ distinct eqs (items s at n item)
-  unfolding items
-  differ_by size h k =
-      let r : length {A = ℕ} (replicate size 0) ≡ size = length-replicate {A = ℕ} size 0 in
-      differ_fresh s item n (replicate size 0) at 0 (λ y. false) (empty s item (replicate size 0) at) (rw r (omega arith)) (rw r k) t
-      ∙ fresh_distinct eqs (table_at (item_at s item) (item_end s item) at n)
-
--- of a table that lies within s
-pub differ_exact : (s : List ℕ) (at n : ℕ) (item : Item) → n ≤ 1024 → table_end (item_end s item) at n ≤ length s
-    → differ s at n item ≡ distinct eqs (items s at n item)
-unfolding differ
-differ_exact s at n item h t =
-    sym (lt_no _ _ _ _ (omega arith) refl)
-    ∙ lt_split 64 n _ _ (λ x. x ≡ distinct eqs (items s at n item)) (λ l. differ_by s at n item t 1024 (omega arith) (omega arith)) (λ l. differ_by s at n item t 64 l (omega arith))

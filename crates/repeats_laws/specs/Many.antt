@@ -15,7 +15,6 @@ use Rattle.stored.specs.Laws.{stands_times, table_length}
 use Rattle.stored.specs.Parts.{stands_path}
 use Rattle.repeats.specs.declared.Item.TheVariants.{Path}
 use Rattle.repeats.specs.Repeats.{differ}
-use Rattle.repeats_laws.specs.Paths.{paths_differ}
 
 few : (ps : List (List ℕ)) → paths_fit ps ≡ true → distinct eqs ps ≡ true → length ps ≤ 256
 unfolding paths_fit
@@ -23,21 +22,9 @@ few ps h e =
     let f = leb-true (count (λ p. not (eqs free_path p)) ps) 255 h in
     omega (arith, count_once eqs eqs_true free_path ps e, count_both (eqs free_path) ps)
 
-many_same : (ps : List (List ℕ)) → paths_fit ps ≡ true → 256 < length ps → distinct eqs ps ≡ false
+pub many_same : (ps : List (List ℕ)) → paths_fit ps ≡ true → 256 < length ps → distinct eqs ps ≡ false
 many_same ps h l = go (distinct eqs ps) refl
   where
     go : (t : Bool) → distinct eqs ps ≡ t → distinct eqs ps ≡ false
     go true e = absurd (omega (arith, few ps h e))
     go false e = e
-
--- of any number of paths
-pub paths_differ_fit : (s : List ℕ) (at n : ℕ) (ps : List (List ℕ)) (r : List ℕ) → times n read_path (drop at s) ≡ some (ps, r)
-    → at ≤ length s → paths_fit ps ≡ true → differ s at n Path ≡ distinct eqs ps
-unfolding differ
-paths_differ_fit s at n ps r e i h = elim (dec_lt 1024 n) [
-  | yes l ↦
-      let y = (stands_times s read_path (path_at s) (path_end s) (stands_path s) n at).by ps r i e in
-      let z : length ps ≡ n = ap length y.0 ∙ table_length s (path_at s) (path_end s) at n in
-      sym (lt_yes _ _ _ _ l refl) ∙ sym (many_same ps h (omega arith))
-  | no l ↦ paths_differ s at n ps r e i (omega arith)
-]

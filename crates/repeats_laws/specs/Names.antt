@@ -21,7 +21,7 @@ use Rattle.repeats.specs.declared.Item.TheVariants.{Name as Named}
 use Rattle.repeats.specs.Repeats.{size_of, differ}
 use Rattle.repeats_laws.specs.Runs.{Alike, none, more, alike_at}
 use Rattle.repeats_laws.specs.Items.{item_at, item_end, items, item_same, item_alike}
-use Rattle.repeats_laws.specs.Exact.{differ_exact}
+
 use Rattle.repeats_laws.specs.Paths.{distinct_table}
 use Rattle.repeats_laws.specs.Numbers.{alike_part, alike_join, be16_alike, be64_alike, numbers_alike, length_numbers, alike_be16, alike_be64, alike_numbers}
 
@@ -36,12 +36,12 @@ module _ (s : List ℕ) where
   name_size a = omega arith
 
   -- what the bytes of two names say of their parts
-  record Parts (a b : ℕ) : Type 0 where
-    path : be16 s a ≡ be16 s b
-    payload : be64 s (a + 2) ≡ be64 s (b + 2)
-    children : list_at s (a + 10) ≡ list_at s (b + 10)
+  pub record Parts (a b : ℕ) : Type 0 where
+    pub path : be16 s a ≡ be16 s b
+    pub payload : be64 s (a + 2) ≡ be64 s (b + 2)
+    pub children : list_at s (a + 10) ≡ list_at s (b + 10)
 
-  parts : (a b : ℕ) → Alike s (size_of s Named a) a b → Parts a b
+  pub parts : (a b : ℕ) → Alike s (size_of s Named a) a b → Parts a b
   unfolding list_at
   parts a b g =
       let k = byte s (a + 10) in
@@ -56,7 +56,7 @@ module _ (s : List ℕ) where
       }
 
   module _ (small : (i : ℕ) → get_or s i 0 < 256) where
-    bytes : (a b : ℕ) → Parts a b → Alike s (size_of s Named a) a b
+    pub bytes : (a b : ℕ) → Parts a b → Alike s (size_of s Named a) a b
     unfolding list_at
     bytes a b g =
         let k = byte s (a + 10) in
@@ -68,26 +68,3 @@ module _ (s : List ℕ) where
         let t : Alike s (1 + 2 * k) (a + 10) (b + 10) = alike_join s 1 (2 * k) (a + 10) (b + 10) (more e none) (alike_numbers s small k _ _ d) in
         rw name_size (alike_join s 2 _ a b (alike_be16 s small a b g.path)
         (alike_join s 8 _ (a + 2) (b + 2) (alike_be64 s small (a + 2) (b + 2) g.payload) (rw (p, q) t)))
-
-    -- two names are the same where their bytes are
-    pub name_same : (a b : ℕ) → eqs (item_at s Named a) (item_at s Named b) ≡ same_name (name_at s a) (name_at s b)
-    unfolding same_name name_at
-    name_same a b = same_test _ _
-        (λ e.
-        let g = parts a b (item_alike s Named a b (eqs_true _ _ e)) in
-        rw (eq-eqb _ _ g.path, eq-eqb _ _ g.payload, eqs_eq _ _ g.children))
-        (λ e.
-        let f = both _ _ e in
-        let h = both _ _ f.0 in
-        let g : Parts a b = record { path = eqb-true _ _ h.0; payload = eqb-true _ _ h.1; children = eqs_true _ _ f.1 } in
-        eqs_eq _ _ (item_same s Named a b (bytes a b g)))
-
-    pub names_differ_lem : (paths at i n : ℕ) (ms : List Name) (r : List ℕ) → times_from (read_name paths) i n (drop at s) ≡ some (ms, r)
-        → at ≤ length s → n ≤ 1024 → differ s at n Named ≡ distinct same_name ms
-    unfolding items
-    names_differ_lem paths at i n ms r e l h =
-        let y = (stands_times_from s (read_name paths) (name_at s) (name_end s) (λ c a. stands_name s paths c a) i n at).by ms r l e in
-        let f : name_end s ≡ item_end s Named = λ j a. name_end_lem a j in
-        differ_exact s at n Named h (rw (← f) y.3)
-        ∙ distinct_table eqs same_name (item_at s Named) (name_at s) (item_end s Named) name_same n at
-        ∙ rw (y.0, f)

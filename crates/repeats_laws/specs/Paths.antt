@@ -18,7 +18,6 @@ use Rattle.repeats.specs.declared.Item.TheVariants.{Path}
 use Rattle.repeats.specs.Repeats.{size_of, differ}
 use Rattle.repeats_laws.specs.Runs.{Alike, more, length_bytes, bytes_alike, alike_bytes}
 use Rattle.repeats_laws.specs.Items.{item_at, item_end, items, item_same, item_alike}
-use Rattle.repeats_laws.specs.Exact.{differ_exact}
 
 -- ---- tables of the same places
 
@@ -40,32 +39,10 @@ pub alike_rest : {s : List ℕ} {n a b : ℕ} → Alike s (suc n) a b → (byte 
 alike_rest (more e g) = (e, g)
 
 module _ (s : List ℕ) where
-  path_end_lem : (a : ℕ) → path_end s a ≡ item_end s Path a
+  pub path_end_lem : (a : ℕ) → path_end s a ≡ item_end s Path a
   unfolding path_end item_end size_of
   path_end_lem a = omega arith
 
-  path_size : (a : ℕ) → size_of s Path a ≡ suc (byte s a)
+  pub path_size : (a : ℕ) → size_of s Path a ≡ suc (byte s a)
   unfolding size_of
   path_size a = omega arith
-
-  path_same : (a b : ℕ) → eqs (item_at s Path a) (item_at s Path b) ≡ eqs (path_at s a) (path_at s b)
-  unfolding path_at
-  path_same a b = same_test _ _
-      (λ e.
-      let h = alike_rest (rw path_size at (item_alike s Path a b (eqs_true _ _ e))) in
-      eqs_eq _ _ (bytes_alike s h.1 ∙ ap (bytes_at s (b + 1)) h.0))
-      (λ e.
-      let p = eqs_true _ _ e in
-      let z : byte s a ≡ byte s b = sym (length_bytes s _ (a + 1)) ∙ ap length p ∙ length_bytes s _ (b + 1) in
-      let h = alike_bytes s (byte s a) (a + 1) (b + 1) (p ∙ ap (bytes_at s (b + 1)) (sym z)) in
-      eqs_eq _ _ (item_same s Path a b (rw path_size (more z h))))
-
-  pub paths_differ : (at n : ℕ) (ps : List (List ℕ)) (r : List ℕ) → times n read_path (drop at s) ≡ some (ps, r) → at ≤ length s → n ≤ 1024
-      → differ s at n Path ≡ distinct eqs ps
-  unfolding items
-  paths_differ at n ps r e i h =
-      let y = (stands_times s read_path (path_at s) (path_end s) (stands_path s) n at).by ps r i e in
-      let f : path_end s ≡ item_end s Path = λ j a. path_end_lem a j in
-      differ_exact s at n Path h (rw (← f) y.3)
-      ∙ distinct_table eqs eqs (item_at s Path) (path_at s) (item_end s Path) path_same n at
-      ∙ rw (y.0, f)

@@ -12,44 +12,44 @@ use Rattle.resolve_laws.specs.Walk.{then, led_by, lead, at_node, walk_all, too_d
 use Rattle.resolve_laws.specs.Kept.{IsNode, Nodes, nodes_remove, nodes_get, canonical_trees, by_keeps}
 
 -- a node leads to itself
-walk_node : (d : ℕ) (m : Name) (ts : Trees) (s : Hung) → walk d (node m ts) s ≡ then (below d ts s) (λ r. some (node m r.0, r.1))
+pub walk_node : (d : ℕ) (m : Name) (ts : Trees) (s : Hung) → walk d (node m ts) s ≡ then (below d ts s) (λ r. some (node m r.0, r.1))
 unfolding lead at_node
 walk_node d m ts s = walk_is d (node m ts) s
 
 -- what is cut is cut still
-cut_as : {A B : Type 0} (b : Bool) (a : A) (f : A → B) → then (cut b a) (λ x. some (f x)) ≡ cut b (f a)
+pub cut_as : {A B : Type 0} (b : Bool) (a : A) (f : A → B) → then (cut b a) (λ x. some (f x)) ≡ cut b (f a)
 unfolding then cut
 cut_as true a f = refl
 cut_as false a f = refl
 
 -- as deep as before by one more
-cut_node : (d : ℕ) (m : Name) (r : Trees × Hung) → then (limited_all d r) (λ q. some (node m q.0, q.1)) ≡ limited (suc d) (node m r.0, r.1)
+pub cut_node : (d : ℕ) (m : Name) (r : Trees × Hung) → then (limited_all d r) (λ q. some (node m q.0, q.1)) ≡ limited (suc d) (node m r.0, r.1)
 unfolding limited_all limited deeper
 cut_node d m r = cut_as (deeper_any d r.0) r (λ q. (node m q.0, q.1))
 
 -- a walk of what is led to, where that is a node
-walk_led : (d : ℕ) (t : Tree) (s : Hung) → IsNode t → at_node (below d) t s ≡ walk d t s
+pub walk_led : (d : ℕ) (t : Tree) (s : Hung) → IsNode t → at_node (below d) t s ≡ walk d t s
 unfolding at_node
 walk_led d (wire w) s h = absurd h
 walk_led d (node m ts) s h = sym (walk_node d m ts s)
 
 -- a wire is never too deep
-wire_cut : (d w : ℕ) (s : Hung) → at_node (below d) (wire w) s ≡ limited d (wire w, s)
+pub wire_cut : (d w : ℕ) (s : Hung) → at_node (below d) (wire w) s ≡ limited d (wire w, s)
 unfolding at_node limited deeper cut
 wire_cut d w s = refl
 
 -- a node is, where no depth is left
-node_cut : (m : Name) (ts : Trees) (s : Hung) (r : Trees × Hung) → then (below 0 ts s) (λ q. some (node m q.0, q.1)) ≡ limited 0 (node m r.0, r.1)
+pub node_cut : (m : Name) (ts : Trees) (s : Hung) (r : Trees × Hung) → then (below 0 ts s) (λ q. some (node m q.0, q.1)) ≡ limited 0 (node m r.0, r.1)
 unfolding then below too_deep limited deeper cut
 node_cut m ts s r = refl
 
 -- no children are not
-none_cut : (d : ℕ) (s : Hung) → some (Values.none, s) ≡ limited_all d (Values.none, s)
+pub none_cut : (d : ℕ) (s : Hung) → some (Values.none, s) ≡ limited_all d (Values.none, s)
 unfolding limited_all deeper cut
 none_cut d s = refl
 
 -- one tree, then others
-both_cut : (d : ℕ) (us : Trees) (x : Tree × Hung) (y : Trees × Hung) → walk_all (walk d) us x.1 ≡ limited_all d y
+pub both_cut : (d : ℕ) (us : Trees) (x : Tree × Hung) (y : Trees × Hung) → walk_all (walk d) us x.1 ≡ limited_all d y
     → then {B = Trees × Hung} (limited d x) (λ z. then {B = Trees × Hung} (walk_all (walk d) us z.1) (λ v. some (more z.0 v.0, v.1))) ≡ limited_all d (more x.0 y.0, y.1)
 unfolding then limited limited_all deeper cut
 both_cut d us x y g = go (deeper d x.0) (deeper_any d y.0) g
@@ -63,42 +63,10 @@ both_cut d us x y g = go (deeper d x.0) (deeper_any d y.0) g
 
 module _ (n : ℕ) (ih : (d : ℕ) (t : Tree) (s : Hung) → Nodes s.trees → length s.trees < n → walk d t s ≡ limited d (visit n t s)) where
   -- what a wire leads to
-  led_step : (d w : ℕ) (s : Hung) (o : Option Tree) → get s.trees w ≡ o → Nodes s.trees → length s.trees < suc n
+  pub led_step : (d w : ℕ) (s : Hung) (o : Option Tree) → get s.trees w ≡ o → Nodes s.trees → length s.trees < suc n
       → at_node (below d) (led_by w s o).0 (led_by w s o).1 ≡ limited d (on_led (visit n) w s o)
   unfolding led_by on_led
   led_step d w s none e h l = wire_cut d w s
   led_step d w s (some t) e h l =
       let r : Hung = record { links = s.links; trees = remove s.trees w } in
       walk_led d t r (nodes_get IsNode s.trees w t h e) ∙ ih d t r (nodes_remove IsNode s.trees w h) (omega (arith, remove_less s.trees w t e))
-
-  mutual
-    unfolding lead visit_by walk_all below
-
-    step : (d : ℕ) (t : Tree) (s : Hung) → Nodes s.trees → length s.trees < suc n → walk d t s ≡ limited d (visit_by (visit n) t s)
-    step d (wire w) s h l =
-        let c = canonicalize s w in
-        let e = canonical_trees s w in
-        walk_is d (wire w) s
-        ∙ led_step d c.0 c.1 (get c.1.trees c.0) refl (rw e h) (rw e l)
-        ∙ ap (limited d) (sym (visit_wire (visit n) w s))
-    step zero (node m ts) s h l = walk_node 0 m ts s ∙ node_cut m ts s (visit_all (visit n) ts s)
-    step (suc d) (node m ts) s h l =
-        walk_node (suc d) m ts s ∙ ap (λ o. then o (λ r. some (node m r.0, r.1))) (steps d ts s h l) ∙ cut_node d m (visit_all (visit n) ts s)
-
-    steps : (d : ℕ) (ts : Trees) (s : Hung) → Nodes s.trees → length s.trees < suc n → walk_all (walk d) ts s ≡ limited_all d (visit_all (visit n) ts s)
-    steps d Values.none s h l = none_cut d s
-    steps d (more t ts) s h l =
-        let r = visit_by (visit n) t s in
-        let k = by_keeps n t s in
-        ap (λ o. then o (λ x. then (walk_all (walk d) ts x.1) (λ y. some (more x.0 y.0, y.1)))) (step d t s h l)
-        ∙ both_cut d ts r (visit_all (visit n) ts r.1) (steps d ts r.1 (k.nodes IsNode h) (let m = k.most in omega arith))
-
--- the walk is the visit, cut where it is too deep
-pub walk_visit : (n d : ℕ) (t : Tree) (s : Hung) → Nodes s.trees → length s.trees < n → walk d t s ≡ limited d (visit n t s)
-unfolding visit
-walk_visit zero d t s h l = absurd (omega arith)
-walk_visit (suc n) d t s h l = step n (walk_visit n) d t s h l
-
--- and so are trees one after another
-pub walk_all_lem : (n d : ℕ) (ts : Trees) (s : Hung) → Nodes s.trees → length s.trees < suc n → walk_all (walk d) ts s ≡ limited_all d (visit_all (visit n) ts s)
-walk_all_lem n d ts s h l = steps n (walk_visit n) d ts s h l

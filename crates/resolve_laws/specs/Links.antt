@@ -8,7 +8,6 @@ use Rattle.net_file.specs.Values
 use Rattle.conversions.specs.Resolve.{Hung, visit_by, visit_all, visit, visits, visit_link, deeper, deeper_any}
 use Rattle.resolve_laws.specs.Walk.{then, walk, cut, limited}
 use Rattle.resolve_laws.specs.Kept.{IsNode, Nodes, Keeps, keeps_same, keeps_then, visit_keeps}
-use Rattle.resolve_laws.specs.Fuel.{walk_visit}
 
 -- ---- free trees
 
@@ -40,14 +39,14 @@ deep_links d [] = false
 deep_links d (l ∷ ls) = or (deep_link d l) (deep_links d ls)
 
 -- what comes of two steps, of which each may be cut
-two_cut : {A B C : Type 0} (a b : Bool) (x : A) (y : B) (f : A → Option B) (g : A → B → C) → f x ≡ cut b y
+pub two_cut : {A B C : Type 0} (a b : Bool) (x : A) (y : B) (f : A → Option B) (g : A → B → C) → f x ≡ cut b y
     → then (cut a x) (λ p. then (f p) (λ q. some (g p q))) ≡ cut (or a b) (g x y)
 unfolding then cut or
 two_cut true b x y f g e = refl
 two_cut false true x y f g e = rw e
 two_cut false false x y f g e = rw e
 
-link_keeps : (n : ℕ) (l : Tree × Tree) (s : Hung) → Keeps s (visit_link n l s).1
+pub link_keeps : (n : ℕ) (l : Tree × Tree) (s : Hung) → Keeps s (visit_link n l s).1
 unfolding visit_link
 link_keeps n l s = keeps_then (visit_keeps n l.0 s) (visit_keeps n l.1 (visit n l.0 s).1)
 
@@ -55,23 +54,3 @@ pub links_keep : (n : ℕ) (ls : List (Tree × Tree)) (s : Hung) → Keeps s (vi
 unfolding visits
 links_keep n [] s = keeps_same s s refl
 links_keep n (l ∷ ls) s = keeps_then (link_keeps n l s) (links_keep n ls (visit_link n l s).1)
-
-walk_link_lem : (n d : ℕ) (l : Tree × Tree) (s : Hung) → Nodes s.trees → length s.trees < n → walk_link d l s ≡ cut (deep_link d (visit_link n l s).0) (visit_link n l s)
-unfolding walk_link visit_link deep_link limited
-walk_link_lem n d l s h k =
-    let a = visit n l.0 s in
-    let g = visit_keeps n l.0 s in
-    let b = visit n l.1 a.1 in
-    rw (walk_visit n d l.0 s h k)
-    (two_cut (deeper d a.0) (deeper d b.0) a b (λ p. walk d l.1 p.1) (λ p q. ((p.0, q.0), q.1)) (walk_visit n d l.1 a.1 (g.nodes IsNode h) (let m = g.most in omega arith)))
-
-pub walk_links_lem : (n d : ℕ) (ls : List (Tree × Tree)) (s : Hung) → Nodes s.trees → length s.trees < n
-    → walk_links d ls s ≡ cut (deep_links d (visits (visit_link n) ls s).0) (visits (visit_link n) ls s)
-unfolding walk_links visits deep_links cut
-walk_links_lem n d [] s h k = refl
-walk_links_lem n d (l ∷ ls) s h k =
-    let a = visit_link n l s in
-    let g = link_keeps n l s in
-    let b = visits (visit_link n) ls a.1 in
-    rw (walk_link_lem n d l s h k)
-    (two_cut (deep_link d a.0) (deep_links d b.0) a b (λ p. walk_links d ls p.1) (λ p q. (p.0 ∷ q.0, q.1)) (walk_links_lem n d ls a.1 (g.nodes IsNode h) (let m = g.most in omega arith)))

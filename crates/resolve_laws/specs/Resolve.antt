@@ -11,9 +11,9 @@ use Rattle.conversions.specs.Resolve.{Hung, canonicalize, wire_links, meet, pass
 use Rattle.list_laws.specs.Lists.{all_append}
 use Rattle.resolve_laws.specs.Walk.{then, walk_all, walk, cut, limited_all}
 use Rattle.resolve_laws.specs.Kept.{Hang, Nodes, nodes_remove, nodes_get, canonical_trees, IsNode, Keeps, all_keeps}
-use Rattle.resolve_laws.specs.Fuel.{walk_all_lem}
+
 use Rattle.resolve_laws.specs.Pass.{pass_one, pass_more, pass_none, met_by, meet_is}
-use Rattle.resolve_laws.specs.Links.{visits_all, walk_links, or, deep_link, deep_links, links_keep, walk_links_lem}
+use Rattle.resolve_laws.specs.Links.{visits_all, walk_links, or, deep_link, deep_links, links_keep}
 
 -- ---- by the walk
 
@@ -48,7 +48,7 @@ shallow t = elim (deeper 64 t) [ true ↦ false | false ↦ true ]
 abbrev pub Shallow : Tree → Type 0
 Shallow t = deeper 64 t ≡ false
 
-shallow_is : (t : Tree) → shallow t ≡ not (deeper 64 t)
+pub shallow_is : (t : Tree) → shallow t ≡ not (deeper 64 t)
 shallow_is t = go (deeper 64 t)
   where
     go : (b : Bool) → ◌≡◌ {A = Bool} (elim b [ true ↦ false | false ↦ true ]) (not b)
@@ -60,12 +60,12 @@ unfoldable pub Links : (Tree → Type 0) → List (Tree × Tree) → Type 0
 Links P [] = Unit {0}
 Links P (l ∷ ls) = P l.0 × P l.1 × Links P ls
 
-links_append : (P : Tree → Type 0) (ls ks : List (Tree × Tree)) → Links P ls → Links P ks → Links P (ls ++ ks)
+pub links_append : (P : Tree → Type 0) (ls ks : List (Tree × Tree)) → Links P ls → Links P ks → Links P (ls ++ ks)
 unfolding Links
 links_append P [] ks a b = b
 links_append P (l ∷ ls) ks a b = (a.0, a.1, links_append P ls ks a.2 b)
 
-hang_last : (P : Tree → Type 0) (es : List (ℕ × Tree)) (a : ℕ) (t : Tree) → Hang P es → P t → Hang P (es ++ ((a, t) ∷ []))
+pub hang_last : (P : Tree → Type 0) (es : List (ℕ × Tree)) (a : ℕ) (t : Tree) → Hang P es → P t → Hang P (es ++ ((a, t) ∷ []))
 unfolding Hang
 hang_last P [] a t h p = (p, tt)
 hang_last P (e ∷ es) a t h p = (h.0, hang_last P es a t h.1 p)
@@ -75,20 +75,20 @@ unfolding insert
 hang_insert P es a t h p = hang_last P (remove es a) a t (nodes_remove P es a h) p
 
 -- what the second pass keeps, and leaves hanging, is of the links' trees
-abbrev Passes : (Tree → Type 0) → List (Tree × Tree) × Hung → Type 0
+abbrev pub Passes : (Tree → Type 0) → List (Tree × Tree) × Hung → Type 0
 Passes P r = Links P r.0 × Hang P r.1.trees
 
-meet_passes : (P : Tree → Type 0) (t : Tree) (c : ℕ) (r : Hung) (o : Option Tree) → get r.trees c ≡ o → P t → Hang P r.trees → Passes P (met_by t c r o)
+pub meet_passes : (P : Tree → Type 0) (t : Tree) (c : ℕ) (r : Hung) (o : Option Tree) → get r.trees c ≡ o → P t → Hang P r.trees → Passes P (met_by t c r o)
 unfolding met_by Links
 meet_passes P t c r none e p h = (tt, hang_insert P r.trees c t h p)
 meet_passes P t c r (some u) e p h = ((nodes_get P r.trees c u h e, p, tt), nodes_remove P r.trees c h)
 
-meets_pass : (P : Tree → Type 0) (t : Tree) (w : ℕ) (s : Hung) → P t → Hang P s.trees → Passes P (meet w t s)
+pub meets_pass : (P : Tree → Type 0) (t : Tree) (w : ℕ) (s : Hung) → P t → Hang P s.trees → Passes P (meet w t s)
 meets_pass P t w s p h =
     let c = canonicalize s w in
     rw (meet_is w t s) (meet_passes P t c.0 c.1 (get c.1.trees c.0) refl p (rw (canonical_trees s w) h))
 
-one_passes : (P : Tree → Type 0) (t u : Tree) (s : Hung) → P t → P u → Hang P s.trees → Passes P (pass_one t u s)
+pub one_passes : (P : Tree → Type 0) (t u : Tree) (s : Hung) → P t → P u → Hang P s.trees → Passes P (pass_one t u s)
 unfolding pass_one Links
 one_passes P (wire a) (wire b) s p q h = (tt, h)
 one_passes P (wire a) (node m ts) s p q h = meets_pass P (node m ts) a s q h
@@ -107,10 +107,10 @@ all_pass P (p ∷ ps) s l h =
 
 -- ---- every tree of the result
 
-abbrev pairs : List (Tree × Tree) → List Tree
+abbrev pub pairs : List (Tree × Tree) → List Tree
 pairs ls = concat_map (λ l. l.0 ∷ l.1 ∷ []) ls
 
-all_listed : (ts : Trees) → all shallow (listed ts) ≡ not (deeper_any 64 ts)
+pub all_listed : (ts : Trees) → all shallow (listed ts) ≡ not (deeper_any 64 ts)
 unfolding deeper_any
 all_listed Values.none = refl
 all_listed (more t ts) = ap (λ b. shallow t && b) (all_listed ts) ∙ go (deeper 64 t) (deeper_any 64 ts)
@@ -119,7 +119,7 @@ all_listed (more t ts) = ap (λ b. shallow t && b) (all_listed ts) ∙ go (deepe
     go true b = refl
     go false b = refl
 
-all_pairs : (ls : List (Tree × Tree)) → all shallow (pairs ls) ≡ not (deep_links 64 ls)
+pub all_pairs : (ls : List (Tree × Tree)) → all shallow (pairs ls) ≡ not (deep_links 64 ls)
 unfolding deep_links deep_link or
 all_pairs [] = refl
 all_pairs (l ∷ ls) = ap (λ b. shallow l.0 && (shallow l.1 && b)) (all_pairs ls) ∙ go (deeper 64 l.0) (deeper 64 l.1) (deep_links 64 ls)
@@ -129,12 +129,12 @@ all_pairs (l ∷ ls) = ap (λ b. shallow l.0 && (shallow l.1 && b)) (all_pairs l
     go false true c = refl
     go false false c = refl
 
-links_shallow : (ls : List (Tree × Tree)) → Links Shallow ls → deep_links 64 ls ≡ false
+pub links_shallow : (ls : List (Tree × Tree)) → Links Shallow ls → deep_links 64 ls ≡ false
 unfolding deep_links deep_link or Links
 links_shallow [] h = refl
 links_shallow (l ∷ ls) h = rw (h.0, h.1, links_shallow ls h.2)
 
-put_links : (e : ℕ × Tree) (es : List (ℕ × Tree)) → Shallow e.1 → Hang Shallow es → Hang Shallow (put e es)
+pub put_links : (e : ℕ × Tree) (es : List (ℕ × Tree)) → Shallow e.1 → Hang Shallow es → Hang Shallow (put e es)
 unfolding put Hang
 put_links e [] s h = (s, tt)
 put_links e (f ∷ fs) s h = go (ltb e.0 f.0) (put_links e fs s h.1)
@@ -143,12 +143,12 @@ put_links e (f ∷ fs) s h = go (ltb e.0 f.0) (put_links e fs s h.1)
     go true g = (s, (h.0, h.1))
     go false g = (h.0, g)
 
-sorted_links : (es : List (ℕ × Tree)) → Hang Shallow es → Hang Shallow (sorted es)
+pub sorted_links : (es : List (ℕ × Tree)) → Hang Shallow es → Hang Shallow (sorted es)
 unfolding sorted Hang
 sorted_links [] h = tt
 sorted_links (e ∷ es) h = put_links e (sorted es) h.0 (sorted_links es h.1)
 
-circles_shallow : (es : List (ℕ × Tree)) → Hang Shallow es → Links Shallow (map circle es)
+pub circles_shallow : (es : List (ℕ × Tree)) → Hang Shallow es → Links Shallow (map circle es)
 unfolding Hang Links deeper
 circles_shallow [] h = tt
 circles_shallow (e ∷ es) h = (refl, h.0, circles_shallow es h.1)
@@ -159,27 +159,27 @@ unfoldable pub judged : Bool → TreeNet → Result TreeNet
 judged true r = ok r
 judged false r = refuse 17
 
-judge_by : (b : Bool) (r : TreeNet) → ◌≡◌ {A = Result TreeNet} (elim b [ true ↦ ok r | false ↦ refuse 17 ]) (judged b r)
+pub judge_by : (b : Bool) (r : TreeNet) → ◌≡◌ {A = Result TreeNet} (elim b [ true ↦ ok r | false ↦ refuse 17 ]) (judged b r)
 unfolding judged
 judge_by true r = refl
 judge_by false r = refl
 
-judge : (n : TreeNet) → resolve_tree n ≡ judged (all shallow (trees_of (resolve_all n))) (resolve_all n)
+pub judge : (n : TreeNet) → resolve_tree n ≡ judged (all shallow (trees_of (resolve_all n))) (resolve_all n)
 unfolding resolve_tree
 judge n = judge_by (all shallow (trees_of (resolve_all n))) (resolve_all n)
 
 -- where trees are left hanging
-abbrev visited : TreeNet → List (Tree × Tree) → Hung → TreeNet
+abbrev pub visited : TreeNet → List (Tree × Tree) → Hung → TreeNet
 visited n ls h =
     let f = visits (visit (suc (length h.trees))) n.free h in
     let k = visits (visit_link (suc (length h.trees))) ls f.1 in
     with_trees n f.0 (k.0 ++ map circle (sorted k.1.trees))
 
-resolved_by : TreeNet → List (Tree × Tree) → Hung → Bool → TreeNet
+unfoldable pub resolved_by : TreeNet → List (Tree × Tree) → Hung → Bool → TreeNet
 resolved_by n ls h true = with_trees n n.free ls
 resolved_by n ls h false = visited n ls h
 
-resolve_by : (n : TreeNet) → resolve_all n ≡ resolved_by n (passed n).0 (passed n).1 (eqb (length (passed n).1.trees) 0)
+pub resolve_by : (n : TreeNet) → resolve_all n ≡ resolved_by n (passed n).0 (passed n).1 (eqb (length (passed n).1.trees) 0)
 unfolding resolve_all resolved_by
 resolve_by n = go (eqb (length (passed n).1.trees) 0)
   where
@@ -187,11 +187,11 @@ resolve_by n = go (eqb (length (passed n).1.trees) 0)
     go true = refl
     go false = refl
 
-trees_of_lem : (n : TreeNet) (free : List Tree) (ls : List (Tree × Tree)) → all shallow (trees_of (with_trees n free ls)) ≡ (all shallow free && all shallow (pairs ls))
+pub trees_of_lem : (n : TreeNet) (free : List Tree) (ls : List (Tree × Tree)) → all shallow (trees_of (with_trees n free ls)) ≡ (all shallow free && all shallow (pairs ls))
 unfolding trees_of with_trees
 trees_of_lem n free ls = all_append shallow free (pairs ls)
 
-pairs_append : (ls ks : List (Tree × Tree)) → deep_links 64 (ls ++ ks) ≡ or (deep_links 64 ls) (deep_links 64 ks)
+pub pairs_append : (ls ks : List (Tree × Tree)) → deep_links 64 (ls ++ ks) ≡ or (deep_links 64 ls) (deep_links 64 ks)
 unfolding deep_links or
 pairs_append [] ks = refl
 pairs_append (l ∷ ls) ks = ap (or (deep_link 64 l)) (pairs_append ls ks) ∙ go (deep_link 64 l) (deep_links 64 ls) (deep_links 64 ks)
@@ -205,57 +205,31 @@ unfoldable pub Frees : List Tree → Type 0
 Frees [] = Unit {0}
 Frees (t ∷ ts) = Shallow t × Frees ts
 
-frees_all : (ts : List Tree) → Frees ts → all shallow ts ≡ true
+pub frees_all : (ts : List Tree) → Frees ts → all shallow ts ≡ true
 unfolding Frees
 frees_all [] h = refl
 frees_all (t ∷ ts) h = rw (shallow_is t, h.0, frees_all ts h.1)
 
 -- the three ways
-plain_judged : (n : TreeNet) (ls : List (Tree × Tree)) → Frees n.free → Links Shallow ls → judged (all shallow (trees_of (with_trees n n.free ls))) (with_trees n n.free ls) ≡ ok (with_trees n n.free ls)
+pub plain_judged : (n : TreeNet) (ls : List (Tree × Tree)) → Frees n.free → Links Shallow ls → judged (all shallow (trees_of (with_trees n n.free ls))) (with_trees n n.free ls) ≡ ok (with_trees n n.free ls)
 unfolding judged
 plain_judged n ls f l = rw (trees_of_lem n n.free ls, frees_all n.free f, all_pairs ls, links_shallow ls l)
 
-both_not : (a b : Bool) → (not a && not (or b false)) ≡ not (or a b)
+pub both_not : (a b : Bool) → (not a && not (or b false)) ≡ not (or a b)
 unfolding or
 both_not true b = refl
 both_not false true = refl
 both_not false false = refl
 
-judged_is : (n : TreeNet) (free : List Tree) (ls ks : List (Tree × Tree)) (a b : Bool) → all shallow free ≡ not a → deep_links 64 ls ≡ b → deep_links 64 ks ≡ false
+pub judged_is : (n : TreeNet) (free : List Tree) (ls ks : List (Tree × Tree)) (a b : Bool) → all shallow free ≡ not a → deep_links 64 ls ≡ b → deep_links 64 ks ≡ false
     → judged (all shallow (trees_of (with_trees n free (ls ++ ks)))) (with_trees n free (ls ++ ks)) ≡ judged (not (or a b)) (with_trees n free (ls ++ ks))
 judged_is n free ls ks a b ea eb ec =
     ap (λ t. judged t (with_trees n free (ls ++ ks))) (trees_of_lem n free (ls ++ ks) ∙ rw (ea, all_pairs (ls ++ ks), pairs_append ls ks, eb, ec) (both_not a b))
 
 -- what is cut, and then judged
-walk_judged : (n : TreeNet) (ls : List (Tree × Tree)) (u : Trees × Hung) (a b : Bool) (v : List (Tree × Tree) × Hung) → walk_links 64 ls u.1 ≡ cut b v
+pub walk_judged : (n : TreeNet) (ls : List (Tree × Tree)) (u : Trees × Hung) (a b : Bool) (v : List (Tree × Tree) × Hung) → walk_links 64 ls u.1 ≡ cut b v
     → on_free n ls (cut a u) ≡ judged (not (or a b)) (with_trees n (listed u.0) (v.0 ++ map circle (sorted v.1.trees)))
 unfolding on_free on_links cut judged or
 walk_judged n ls u true b v e = refl
 walk_judged n ls u false true v e = rw e
 walk_judged n ls u false false v e = rw e
-
-by_test : (n : TreeNet) (ls : List (Tree × Tree)) (h : Hung) → Frees n.free → Links Shallow ls → Hang Shallow h.trees → Nodes h.trees → (b : Bool)
-    → judged (all shallow (trees_of (resolved_by n ls h b))) (resolved_by n ls h b) ≡ walked_by n ls h b
-unfolding resolved_by walked_by limited_all
-by_test n ls h f l s d true = plain_judged n ls f l
-by_test n ls h f l s d false =
-    let m = length h.trees in
-    let u = visit_all (visit m) (trees n.free) h in
-    let k = all_keeps m (trees n.free) h in
-    let v = visits (visit_link (suc m)) ls u.1 in
-    let c = links_keep (suc m) ls u.1 in
-    let w : walk_links 64 ls u.1 ≡ cut (deep_links 64 v.0) v = walk_links_lem (suc m) 64 ls u.1 (k.nodes IsNode d) (let o = k.most in omega arith) in
-    let z : deep_links 64 (map circle (sorted v.1.trees)) ≡ false =
-    links_shallow (map circle (sorted v.1.trees)) (circles_shallow (sorted v.1.trees) (sorted_links v.1.trees (c.nodes Shallow (k.nodes Shallow s)))) in
-    rw (visits_all m n.free h, walk_all_lem m 64 (trees n.free) h d (omega arith))
-    (judged_is n (listed u.0) v.0 (map circle (sorted v.1.trees)) (deeper_any 64 u.0) (deep_links 64 v.0) (all_listed u.0) refl z
-    ∙ sym (walk_judged n ls u (deeper_any 64 u.0) (deep_links 64 v.0) v w))
-
-pub resolve_is : (n : TreeNet) → Frees n.free → Links Shallow n.links → Nodes (passed n).1.trees → resolve_tree n ≡ walked n
-unfolding walked Hang
-resolve_is n f l nodes =
-    judge n ∙ ap (λ r. judged (all shallow (trees_of r)) r) (resolve_by n)
-    ∙ by_test n (passed n).0 (passed n).1 f q.0 q.1 nodes (eqb (length (passed n).1.trees) 0)
-  where
-    q : Links Shallow (passed n).0 × Hang Shallow (passed n).1.trees
-    q = all_pass Shallow n.links (record { links = wire_links n.links []; trees = [] }) l tt

@@ -36,8 +36,9 @@ use Rattle.resolve_net.specs.Net.{onward, wires_at, pass_links, prepare, resolve
 use Rattle.resolve_laws.specs.Walk.{walk_all, walk, cut, limited_all}
 use Rattle.resolve_laws.specs.Keys.{Keys}
 use Rattle.resolve_laws.specs.Kept.{IsNode, Hang, Nodes, Low, Keeps, all_keeps}
-use Rattle.resolve_laws.specs.Fuel.{walk_all_lem}
-use Rattle.resolve_laws.specs.Links.{walk_links, deep_links, links_keep, walk_links_lem}
+use Rattle.resolve_laws.proofs.Fuel.{walk_all_lem}
+use Rattle.resolve_laws.specs.Links.{walk_links, deep_links, links_keep}
+use Rattle.resolve_laws.proofs.Links.{walk_links_lem}
 use Rattle.resolve_laws.specs.Resolve.{on_free, walked_by, passed, walked}
 use Rattle.resolve_walk_laws.specs.Meant.{Frame, HungAt, Meant}
 use Rattle.resolve_walk_laws.specs.Places.{most}

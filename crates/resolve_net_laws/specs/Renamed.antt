@@ -170,9 +170,9 @@ module _ (s : List ℕ) (m : TreeNet) (at p : ℕ) (k : NetLies s m at p) (ws ou
       }
 
   nothing_unseen : (q v : ℕ) → v < n → (Seen s (visit_links s (length ls) frees.ws frees.out 0 (on q 2)).ws p n v → ⊥) → hung (visit_links s (length ls) frees.ws frees.out 0 (on q 2)).ws v ≡ 0
-  nothing_unseen q v h l =
+  nothing_unseen q v lv l =
       let o = visited_only (Mine s bytes at) s (length ls) frees.ws frees.out 0 (on q 2) (frees_only (Mine s bytes at) s (length m.free) ws (store to (front m) out) (at + 8) (on to 8) mine) in
-      none_unseen s bytes at _ n v k.few o h (rw k.place l)
+      none_unseen s bytes at _ n v k.few o lv (rw k.place l)
 
   pub renamed_is : (a b : Bool) (u : Trees × Hung) (v : List (Tree × Tree) × Hung) → walk_all (walk 64) (trees m.free) h ≡ cut a u → walk_links 64 ls u.1 ≡ cut b v
       → Keys v.1.trees → Low n v.1.trees → length ls + length (sorted v.1.trees) ≤ 65535

@@ -23,7 +23,8 @@ use Rattle.scan_tree.specs.Count.{links_at}
 use Rattle.scan_tree_laws.specs.Scanned.{scanned_end}
 use Rattle.store.specs.Store.{store}
 use Rattle.resolve_net.specs.Net.{wires_at, net}
-use Rattle.resolve_laws.specs.Resolve.{Shallow, Links, Frees, passed, walked, resolve_is}
+use Rattle.resolve_laws.specs.Resolve.{Shallow, Links, Frees, passed, walked}
+use Rattle.resolve_laws.proofs.Resolve.{resolve_is}
 use Rattle.spelt_trees.specs.Spelt.{Spelt, spelt_room, spelt_next, spelt_is}
 use Rattle.spelt_trees.specs.Lies.{Lies, LieAll, spelt_lies, spelt_lie_all}
 use Rattle.spelt_trees.specs.Scanned.{all_scanned}

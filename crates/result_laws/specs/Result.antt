@@ -30,14 +30,14 @@ use Rattle.graph_laws.specs.Rest.{FreeNode, holds_filled}
 use Rattle.graph_laws.specs.Nodes.{AllNodes}
 use Rattle.load_laws.specs.Finds.{all_mem}
 use Rattle.load_laws.specs.Begin.{Writable, each_mem, T_true, not_false}
-use Rattle.finish_laws.specs.Twice.{drawn_wired}
+use Rattle.finish_laws.proofs.Twice.{drawn_wired}
 use Rattle.finish_laws.specs.Fits.{each_map, drawn_fits}
 use Rattle.reached_laws.specs.Accepted.{free_number}
 use Rattle.reached_laws.specs.Wires.{home_at}
 use Rattle.reached_laws.specs.Files.{LimitLeft}
 use Rattle.reached_laws.specs.Image.{Image}
 use Rattle.size_laws.specs.Each.{each_more}
-use Rattle.size_laws.specs.Files.{flat_fits}
+use Rattle.size_laws.proofs.Files.{flat_fits}
 use Rattle.result_laws.specs.Tables.{result_table, result_joined, table_longer, table_paths, table_others, table_few, table_differ, table_unnamed, names_wider, rule_wider, net_wider}
 use Rattle.result_laws.specs.Nets.{Finishes, found, live_nodes_lem, live_few, net_drawn, net_finishes, net_ports}
 

@@ -8,8 +8,9 @@ use Rattle.net_file.specs.Checks.{flat, read, write}
 use Rattle.net_file_laws.specs.Bytes.{Bytes}
 use Rattle.net_file_laws.specs.Flat.{FlatNetFits}
 use Rattle.net_file_laws.proofs.RoundTrip.{flat_write_read}
-use Rattle.size_laws.specs.Parts.{be_length, counted_size, flat_net_size}
-use Rattle.size_laws.specs.Files.{body_size}
+use Rattle.size_laws.specs.Parts.{be_length, counted_size}
+use Rattle.size_laws.proofs.Parts.{flat_net_size}
+use Rattle.size_laws.proofs.Files.{body_size}
 
 -- less than 135 million bytes
 pub file_short : (s : List ℕ) → Bytes s → (f : File FlatNet) → read flat s ≡ ok f → length s < 135000000

@@ -34,7 +34,7 @@ use Rattle.image_nets_means.specs.Nets.{nets_pass}
 use Rattle.image_slots_means.specs.Slots.{slots_pass}
 use Rattle.image_dirty_means.specs.Dirty.{dirty_passes}
 use Rattle.image_waits_means.specs.Waits.{waits_pass}
-use Rattle.image_lists_means.specs.Pools.{pools_pass}
+use Rattle.image_lists_means.proofs.Pools.{pools_pass}
 
 -- a file that is read is accepted
 file_passes : (s : List ℕ) (f : File FlatNet) → read flat s ≡ ok f → file_holds s ≡ true

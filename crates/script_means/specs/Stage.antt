@@ -21,7 +21,8 @@ use Rattle.join_laws.proofs.Join.{frame_join}
 use Rattle.script_laws.specs.Safe.{CanJoin, CanCut, Fits, edit_wired}
 use Rattle.script_laws.specs.Tidy.{real_filled}
 use Rattle.means.specs.Means.{number, Means}
-use Rattle.graph_means.specs.Wires.{CanLink, cut_means, link_means, follow_real}
+use Rattle.graph_means.specs.Wires.{CanLink, cut_means, follow_real}
+use Rattle.graph_means.proofs.Wires.{link_means}
 use Rattle.good_means.specs.Room.{markable}
 use Rattle.script_means.specs.Dead.{Dead, dead_keep}
 use Rattle.script_means.specs.Stays.{remove_wire_stays, link_stays}

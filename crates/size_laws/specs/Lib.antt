@@ -1,4 +1,3 @@
 pub mod Each
 pub mod Parts
-pub mod Files
 pub mod Trees

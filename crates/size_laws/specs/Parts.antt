@@ -57,15 +57,15 @@ name_size paths c m h =
     three_size (be 2 m.path) (be 8 m.payload) (counted 1 (be 2) m.children) 2 8 17
     (number_size 2 m.path) (number_size 8 m.payload) (numbers_size 2 1 8 m.children h.few)
 
-list_size : (paths : ℕ) (ps : List ℕ) → ListFits paths ps → length (write_list ps) ≤ 511
+pub list_size : (paths : ℕ) (ps : List ℕ) → ListFits paths ps → length (write_list ps) ≤ 511
 unfolding write_list
 list_size paths ps h = omega (arith, numbers_size 2 1 255 ps h.few)
 
 -- a smaller bound is one
-within : (k n : ℕ) (a : List ℕ) → k ≤ n → length a ≤ k → length a ≤ n
+pub within : (k n : ℕ) (a : List ℕ) → k ≤ n → length a ≤ k → length a ≤ n
 within k n a l h = omega arith
 
-two_lists : (paths tag : ℕ) (xs ys : List ℕ) → ListFits paths xs → ListFits paths ys → length (be 1 tag ++ write_list xs ++ write_list ys) ≤ 1023
+pub two_lists : (paths tag : ℕ) (xs ys : List ℕ) → ListFits paths xs → ListFits paths ys → length (be 1 tag ++ write_list xs ++ write_list ys) ≤ 1023
 two_lists paths tag xs ys h g =
     three_size (be 1 tag) (write_list xs) (write_list ys) 1 511 511 (number_size 1 tag) (list_size paths xs h) (list_size paths ys g)
 
@@ -89,20 +89,3 @@ head_size name b wires =
 pub pair_size : (p : ℕ × ℕ) → length (write_pair p) ≤ 4
 unfolding write_pair
 pair_size p = both_size (be 2 p.0) (be 2 p.1) 2 2 (number_size 2 p.0) (number_size 2 p.1)
-
-pub node_size : (paths names wires : ℕ) (n : FlatNode) → NodeFits paths names wires n → length (write_node n) ≤ 60
-unfolding write_node
-node_size paths names wires n h =
-    three_size (write_name n.name) (be 2 n.pri) (counted 1 (be 2) n.aux) 27 2 31
-    (name_size paths names n.name h.name) (number_size 2 n.pri) (numbers_size 2 1 15 n.aux h.few)
-
-pub flat_net_size : (paths names : ℕ) (n : FlatNet) → FlatNetFits paths names n → length (write_flat_net n) ≤ 507940
-unfolding write_flat_net
-flat_net_size paths names n h =
-    let hd = write_head n.name n.included n.wires in
-    let fs = counted 1 (be 2) n.free in
-    let ps = counted 2 write_pair n.pairs in
-    both_size (hd ++ fs ++ ps) (counted 2 write_node n.nodes) 262178 245762
-    (three_size hd fs ps 7 29 262142 (head_size n.name n.included n.wires) (numbers_size 2 1 14 n.free h.few_free)
-    (counted_size write_pair (PairFits n.wires) 4 (λ p f. pair_size p) 2 65535 n.pairs h.few_pairs h.pairs))
-    (counted_size write_node (NodeFits paths names n.wires) 60 (λ m f. node_size paths names n.wires m f) 2 4096 n.nodes h.few_nodes h.nodes)

@@ -39,16 +39,16 @@ Fit ps m [] = Unit {0}
 Fit ps m (w ∷ l) = (canonical ps w < m) × Fit ps m l
 
 -- one wire, and the rest
-more_wires : (ws wires file : List ℕ) (at p a q w k : ℕ) → w ≡ be16 file at → on file at 2 ≡ a → next p ≡ q
+pub more_wires : (ws wires file : List ℕ) (at p a q w k : ℕ) → w ≡ be16 file at → on file at 2 ≡ a → next p ≡ q
     → join_wires (join_wire ws wires w p).ws (join_wire ws wires w p).wires file a q k ≡ join_wires ws wires file at p (suc k)
 unfolding join_wires
 more_wires ws wires file at p a q w k e f g = rw (e, ← f, ← g) refl
 
 module _ (ps : List (ℕ × ℕ)) (apart : PairsApart ps) (m : ℕ) (w : ℕ) (p : Port) (inside : canonical ps w < m) (low : number p < 2147483648) where
-  abbrev x : End
+  abbrev pub x : End
   x = (canonical ps w, p)
 
-  moved : (ends met : List End) (y : End) → Memᴰ y (x ∷ ends ++ met) → Memᴰ y (ends ++ x ∷ met)
+  pub moved : (ends met : List End) (y : End) → Memᴰ y (x ∷ ends ++ met) → Memᴰ y (ends ++ x ∷ met)
   moved ends met y i = go (Memᴰ.cases_cons i)
     where
       tail : Memᴰ y ends ⊎ Memᴰ y met → Memᴰ y (ends ++ x ∷ met)
@@ -59,38 +59,5 @@ module _ (ps : List (ℕ × ℕ)) (apart : PairsApart ps) (m : ℕ) (w : ℕ) (p
       go (inl e) = Memᴰ.append_right ends (Memᴰ.head e)
       go (inr k) = tail (Memᴰ.append_cases ends k)
 
-  moved_count : (ends met : List End) (v : ℕ) → of_wire v (x ∷ ends ++ met) ≡ of_wire v (ends ++ x ∷ met)
+  pub moved_count : (ends met : List End) (v : ℕ) → of_wire v (x ∷ ends ++ met) ≡ of_wire v (ends ++ x ∷ met)
   moved_count ends met v = let u = of_wire_append v ends (x ∷ met) in let y = of_wire_append v ends met in omega arith
-
-  -- one end, and what is done with the others after it
-  pub join_more : (ends : List End) (ws wires : List ℕ) (met : List End) → Table ps m wires met → ((v : ℕ) → of_wire v (x ∷ ends ++ met) ≤ 2) → (j : Joined)
-      → (Table ps m (join_wire ws wires w (number p)).wires (x ∷ met) → ((v : ℕ) → of_wire v (ends ++ x ∷ met) ≤ 2)
-      → (j.ws ≡ links (join_wire ws wires w (number p)).ws (join_met (x ∷ met) ends)) × Table ps m j.wires (ends ++ x ∷ met))
-      → (j.ws ≡ links ws (join_met met (x ∷ ends))) × Table ps m j.wires (x ∷ ends ++ met)
-  join_more ends ws wires met t few j f =
-      let c = canonical ps w in
-      let one : of_wire c (x ∷ ends ++ met) ≡ 1 + of_wire c (ends ++ met) = rw (eq-eqb c c refl) refl in
-      let app = of_wire_append c ends met in
-      let two = few c in
-      let step = join_wire_met ps apart m wires met t w p inside low (omega arith) ws ends in
-      let more = f step.1 (λ v. rw (← moved_count ends met v) (few v)) in
-      (more.0 ∙ step.0, table_move (moved_count ends met) (moved ends met) more.1)
-
-module _ (t : FlatNet) (apart : PairsApart t.pairs) (m : ℕ) (file : List ℕ) (n : ℕ) where
-  -- the wires l at the ports of node n from port i on
-  pub join_wires_met : (l : List ℕ) (i at : ℕ) (ws wires : List ℕ) (met : List End) → Table t.pairs m wires met → Fit t.pairs m l → Numbers file at l
-      → number (port n (i + length l)) ≤ 2147483648 → ((w : ℕ) → of_wire w (ends_at t n i l ++ met) ≤ 2)
-      → ((join_wires ws wires file at (number (port n i)) (length l)).ws ≡ links ws (join_met met (ends_at t n i l)))
-      × Table t.pairs m (join_wires ws wires file at (number (port n i)) (length l)).wires (ends_at t n i l ++ met)
-  unfolding join_wires join_met links ends_at
-  join_wires_met [] i at ws wires met b f s low few = (refl, b)
-  join_wires_met (w ∷ l) i at ws wires met b f s low few =
-      let x : End = (canonical t.pairs w, port n i) in
-      let ends = ends_at t n (suc i) l in
-      let a : on file at 2 ≡ at + 2 = let h = s.1 in omega arith in
-      let p : next (number (port n i)) ≡ number (port n (suc i)) = omega arith in
-      let j = join_wire ws wires w (number (port n i)) in
-      subst (λ (k : Joined). (k.ws ≡ links ws (join_met met (x ∷ ends))) × Table t.pairs m k.wires (x ∷ ends ++ met))
-      (more_wires ws wires file at (number (port n i)) (at + 2) (number (port n (suc i))) w (length l) s.0 a p)
-      (join_more t.pairs apart m w (port n i) f.0 (omega arith) ends ws wires met b few (join_wires j.ws j.wires file (at + 2) (number (port n (suc i))) (length l))
-      (λ u v. join_wires_met l (suc i) (at + 2) j.ws j.wires (x ∷ met) u f.1 s.2 (omega arith) v))

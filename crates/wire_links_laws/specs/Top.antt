@@ -25,7 +25,7 @@ pub record Topped (ws : List ℕ) : Type 0 where
   pub rows : (i : ℕ) → i < 64 → get_or ws 65536 0 ≤ 1024 * i → get_or ws (65537 + i) 0 ≡ 0
   pub blocks : (i : ℕ) → i < 2048 → get_or ws 65536 0 ≤ 32 * i → get_or ws (65601 + i) 0 ≡ 0
 
-far_low : (ws : List ℕ) (a : ℕ) → a < 65536 → far ws a < 65536
+pub far_low : (ws : List ℕ) (a : ℕ) → a < 65536 → far ws a < 65536
 unfolding far
 far_low ws a h = eq_split _ _ _ _ (λ (x : ℕ). x < 65536) (λ e. h) (λ e. omega arith)
 
@@ -33,16 +33,16 @@ far_low ws a h = eq_split _ _ _ _ (λ (x : ℕ). x < 65536) (λ e. h) (λ e. ome
 
 module _ (ws : List ℕ) (a : ℕ) (h : a < 65536) (t : Topped ws) where
   -- all behind the links stays
-  zero_behind : (i : ℕ) → 65536 ≤ i → get_or (set ws a 0) i 0 ≡ get_or ws i 0
+  pub zero_behind : (i : ℕ) → 65536 ≤ i → get_or (set ws a 0) i 0 ≡ get_or ws i 0
   zero_behind i k = get_or-set_other ws a i 0 0 (λ e. absurd (omega arith))
 
-  zero_word : (c : ℕ) → get_or ws c 0 ≡ 0 → get_or (set ws a 0) c 0 ≡ 0
+  pub zero_word : (c : ℕ) → get_or ws c 0 ≡ 0 → get_or (set ws a 0) c 0 ≡ 0
   zero_word c z = let l = t.long in elim (ℕ_discrete c a) [
     | yes d ↦ rw d (get_or-set_same ws a 0 0 (omega arith))
     | no d ↦ get_or-set_other ws a c 0 0 d ∙ z
   ]
 
-  topped_zero : Topped (set ws a 0)
+  pub topped_zero : Topped (set ws a 0)
   unfolding row_mark block_mark
   topped_zero =
       let e = zero_behind 65536 (omega arith) in
@@ -58,29 +58,29 @@ module _ (ws : List ℕ) (a : ℕ) (h : a < 65536) (t : Topped ws) where
 -- ---- two wires that are linked with each other
 
 module _ (ws : List ℕ) (t : Topped ws) (x y : ℕ) (hx : x < 65536) (hy : y < 65536) where
-  abbrev u : List ℕ
+  abbrev pub u : List ℕ
   u = set ws x (y + 1)
 
-  abbrev v : List ℕ
+  abbrev pub v : List ℕ
   v = set u y (x + 1)
 
-  abbrev w : List ℕ
+  abbrev pub w : List ℕ
   w = raised v x
 
-  abbrev z : List ℕ
+  abbrev pub z : List ℕ
   z = raised w y
 
-  long_v : length v ≡ length ws
+  pub long_v : length v ≡ length ws
   long_v = length-set u y (x + 1) ∙ length-set ws x (y + 1)
 
-  long_w : length w ≡ length ws
+  pub long_w : length w ≡ length ws
   long_w = raised_long v x ∙ long_v
 
-  behind : (i : ℕ) → 65536 ≤ i → get_or v i 0 ≡ get_or ws i 0
+  pub behind : (i : ℕ) → 65536 ≤ i → get_or v i 0 ≡ get_or ws i 0
   behind i h = get_or-set_other u y i (x + 1) 0 (λ e. absurd (omega arith)) ∙ get_or-set_other ws x i (y + 1) 0 (λ e. absurd (omega arith))
 
   -- both are below the word behind the table, which was not above what it is
-  above : (get_or ws 65536 0 ≤ get_or z 65536 0) × (x < get_or z 65536 0) × (y < get_or z 65536 0)
+  pub above : (get_or ws 65536 0 ≤ get_or z 65536 0) × (x < get_or z 65536 0) × (y < get_or z 65536 0)
   above =
       let l = t.long in
       let lv = long_v in
@@ -94,15 +94,15 @@ module _ (ws : List ℕ) (t : Topped ws) (x y : ℕ) (hx : x < 65536) (hy : y < 
       let b₁ = b.1 in
       (omega arith, omega arith, omega arith)
 
-  beside : (c : ℕ) → c < 65536 → (c ≡ x → ⊥) → (c ≡ y → ⊥) → get_or z c 0 ≡ get_or ws c 0
+  pub beside : (c : ℕ) → c < 65536 → (c ≡ x → ⊥) → (c ≡ y → ⊥) → get_or z c 0 ≡ get_or ws c 0
   beside c k dx dy = raised_beside w y c k ∙ raised_beside v x c k ∙ get_or-set_other u y c (x + 1) 0 dy ∙ get_or-set_other ws x c (y + 1) 0 dx
 
   -- no mark goes
-  stay : (i : ℕ) → 65536 < i → get_or z i 0 ≡ 0 → get_or ws i 0 ≡ 0
+  pub stay : (i : ℕ) → 65536 < i → get_or z i 0 ≡ 0 → get_or ws i 0 ≡ 0
   stay i h e = sym (behind i (omega arith)) ∙ raised_stay v x i h (raised_stay w y i h e)
 
   -- marks at f c for wire c: where those of x and of y are set, no wire is linked whose mark is not
-  under : (f : ℕ → ℕ) → ((c : ℕ) → 65536 < f c) → get_or w (f x) 0 ≡ 1 → get_or z (f y) 0 ≡ 1 → (c : ℕ) → c < 65536
+  pub under : (f : ℕ → ℕ) → ((c : ℕ) → 65536 < f c) → get_or w (f x) 0 ≡ 1 → get_or z (f y) 0 ≡ 1 → (c : ℕ) → c < 65536
       → (get_or ws (f c) 0 ≡ 0 → get_or ws c 0 ≡ 0) → get_or z (f c) 0 ≡ 0 → get_or z c 0 ≡ 0
   under f past ex ey c k old e = elim (ℕ_discrete c x) [
     | yes d ↦ let g : get_or w (f x) 0 ≡ 0 = sym (ap (λ (a : ℕ). get_or w (f a) 0) d) ∙ raised_stay w y (f c) (past c) e in absurd (omega arith)
@@ -113,11 +113,11 @@ module _ (ws : List ℕ) (t : Topped ws) (x y : ℕ) (hx : x < 65536) (hy : y < 
   ]
 
   -- the mark of no block or row but theirs is set
-  others : (i : ℕ) → 65536 < i → (i ≡ 65537 + x / 1024 → ⊥) → (i ≡ 65601 + x / 32 → ⊥) → (i ≡ 65537 + y / 1024 → ⊥) → (i ≡ 65601 + y / 32 → ⊥)
+  pub others : (i : ℕ) → 65536 < i → (i ≡ 65537 + x / 1024 → ⊥) → (i ≡ 65601 + x / 32 → ⊥) → (i ≡ 65537 + y / 1024 → ⊥) → (i ≡ 65601 + y / 32 → ⊥)
       → get_or z i 0 ≡ get_or ws i 0
   others i h rx bx ry by = raised_other w y i h ry by ∙ raised_other v x i h rx bx ∙ behind i (omega arith)
 
-  topped_two : Topped z
+  pub topped_two : Topped z
   unfolding row_mark block_mark
   topped_two =
       let l = t.long in
@@ -138,15 +138,6 @@ module _ (ws : List ℕ) (t : Topped ws) (x y : ℕ) (hx : x < 65536) (hy : y < 
             others (65601 + i) (omega arith) (λ e. absurd (omega arith)) (λ e. absurd (omega arith)) (λ e. absurd (omega arith)) (λ e. absurd (omega arith)) ∙ t.blocks i k (omega arith);
       }
 
-  topped_joined : Topped (join ws x y)
-  unfolding join
-  topped_joined = eq_split _ _ _ _ Topped (λ e. t) (λ d. topped_two)
-
-pub topped_linked : (ws : List ℕ) → Topped ws → (a b : ℕ) → a < 65536 → b < 65536 → Topped (link ws a b)
-unfolding link
-topped_linked ws t a b ha hb =
-    topped_joined (set (set ws a 0) b 0) (topped_zero (set ws a 0) b hb (topped_zero ws a ha t)) (far ws a) (far (set ws a 0) b) (far_low ws a ha) (far_low (set ws a 0) b hb)
-
 -- ---- how far it is looked
 
 pub extent_least : (ws : List ℕ) (n : ℕ) → extent ws n ≤ n
@@ -158,12 +149,12 @@ unfolding extent
 extent_under ws n a h l = lt_split _ _ _ _ (λ (x : ℕ). x ≤ a → get_or ws 65536 0 ≤ a) (λ i j. j) (λ i j. absurd (omega arith)) l
 
 -- what holds of each of some wires holds of each that is looked at
-each_less : (P : ℕ → Type 0) {Nothing : ℕ → Type 0} {l m : List ℕ} → Less Nothing l m → Each P m → Each P l
+pub each_less : (P : ℕ → Type 0) {Nothing : ℕ → Type 0} {l m : List ℕ} → Less Nothing l m → Each P m → Each P l
 each_less P Less.none h = tt
 each_less P (Less.both t) h = (h.0, each_less P t h.1)
 each_less P (Less.less n t) h = each_less P t h.1
 
-each_wire : (n w k : ℕ) → w + k ≤ n → Each (λ a. a < n) (wires_from w k)
+pub each_wire : (n w k : ℕ) → w + k ≤ n → Each (λ a. a < n) (wires_from w k)
 unfolding wires_from
 each_wire n w zero h = tt
 each_wire n w (suc k) h = (omega arith, each_wire n (suc w) k (omega arith))
@@ -184,28 +175,28 @@ looks_less ws t n h =
 -- ---- the pairs that are found are all
 
 module _ {B : Type 0} (f : ℕ → List B) where
-  from_none : (k n : ℕ) → ((x : ℕ) → k ≤ x → x < k + n → f x ≡ []) → concat_map f (from k n) ≡ []
+  pub from_none : (k n : ℕ) → ((x : ℕ) → k ≤ x → x < k + n → f x ≡ []) → concat_map f (from k n) ≡ []
   unfolding from
   from_none k zero z = refl
   from_none k (suc n) z = rw (z k (omega arith) (omega arith)) (from_none (suc k) n (λ x h i. z x (omega arith) (omega arith)))
 
-  from_less : (k e n : ℕ) → e ≤ n → ((x : ℕ) → k + e ≤ x → x < k + n → f x ≡ []) → concat_map f (from k e) ≡ concat_map f (from k n)
+  pub from_less : (k e n : ℕ) → e ≤ n → ((x : ℕ) → k + e ≤ x → x < k + n → f x ≡ []) → concat_map f (from k e) ≡ concat_map f (from k n)
   unfolding from
   from_less k zero n h z = sym (from_none k n (λ x i j. z x (omega arith) j))
   from_less k (suc e) zero h z = absurd (omega arith)
   from_less k (suc e) (suc n) h z = rw (from_less (suc k) e n (omega arith) (λ x i j. z x (omega arith) (omega arith)))
 
-  concat_less : {Nothing : ℕ → Type 0} → ((a : ℕ) → Nothing a → f a ≡ []) → {l m : List ℕ} → Less Nothing l m → concat_map f l ≡ concat_map f m
+  pub concat_less : {Nothing : ℕ → Type 0} → ((a : ℕ) → Nothing a → f a ≡ []) → {l m : List ℕ} → Less Nothing l m → concat_map f l ≡ concat_map f m
   concat_less z Less.none = refl
   concat_less z (Less.both {w} t) = ap (λ (r : List B). f w ++ r) (concat_less z t)
   concat_less z (Less.less {w} n t) = rw (z w n) (concat_less z t)
 
-wires_from_lem : (w k : ℕ) → wires_from w k ≡ from w k
+pub wires_from_lem : (w k : ℕ) → wires_from w k ≡ from w k
 unfolding wires_from from
 wires_from_lem w zero = refl
 wires_from_lem w (suc k) = ap (λ (l : List ℕ). w ∷ l) (wires_from_lem (suc w) k)
 
-no_pair : (ws : List ℕ) (a : ℕ) → get_or ws a 0 ≡ 0 → pair_at ws a ≡ []
+pub no_pair : (ws : List ℕ) (a : ℕ) → get_or ws a 0 ≡ 0 → pair_at ws a ≡ []
 unfolding pair_at
 no_pair ws a z = sym (lt_no _ _ _ _ (omega arith) refl)
 

@@ -19,22 +19,22 @@ use Rattle.wiring_laws.specs.Members.{In, all_in, in_all, in_occurs, occurs_in, 
 
 module _ (ws : List ℕ) (p : ℕ × ℕ) where
   -- both once, or neither
-  abbrev Paired : Type 0
+  abbrev pub Paired : Type 0
   Paired = ((occurs p.0 ws ≡ 1) × (occurs p.1 ws ≡ 1)) ⊎ ((occurs p.0 ws ≡ 0) × (occurs p.1 ws ≡ 0))
 
-  pair_told : pair_wired ws p ≡ true → Paired
+  pub pair_told : pair_wired ws p ≡ true → Paired
   unfolding pair_wired
   pair_told e = elim (either (eqb (occurs p.0 ws) 1 && eqb (occurs p.1 ws) 1) (eqb (occurs p.0 ws) 0 && eqb (occurs p.1 ws) 0) e) [
     | inl h ↦ let k = both (eqb (occurs p.0 ws) 1) (eqb (occurs p.1 ws) 1) h in inl (eqb-true _ 1 k.0, eqb-true _ 1 k.1)
     | inr h ↦ let k = both (eqb (occurs p.0 ws) 0) (eqb (occurs p.1 ws) 0) h in inr (eqb-true _ 0 k.0, eqb-true _ 0 k.1)
   ]
 
-  tell_pair : Paired → pair_wired ws p ≡ true
+  pub tell_pair : Paired → pair_wired ws p ≡ true
   unfolding pair_wired
   tell_pair (inl h) = rw (h.0, h.1)
   tell_pair (inr h) = rw (h.0, h.1)
 
-  paired_once : Paired → (w : ℕ) → (w ≡ p.0) ⊎ (w ≡ p.1) → occurs w ws ≤ 1
+  pub paired_once : Paired → (w : ℕ) → (w ≡ p.0) ⊎ (w ≡ p.1) → occurs w ws ≤ 1
   paired_once (inl h) w (inl e) = rw (e, h.0) (omega arith)
   paired_once (inl h) w (inr e) = rw (e, h.1) (omega arith)
   paired_once (inr h) w (inl e) = rw (e, h.0) (omega arith)
@@ -44,55 +44,22 @@ module _ (ws : List ℕ) (p : ℕ × ℕ) where
 
 module _ (c : List ℕ) (base : ℕ) (ws : List ℕ) (ps : List (ℕ × ℕ)) (once : (w : ℕ) → occurs w (pair_wires ps) ≤ 1)
     (told : (w : ℕ) → get_or c w 0 - base ≡ min 3 (occurs w ws + occurs w (pair_wires ps))) where
-  twice_told : (w : ℕ) → twice c base w ≡ true → occurs w ws + occurs w (pair_wires ps) ≡ 2
+  pub twice_told : (w : ℕ) → twice c base w ≡ true → occurs w ws + occurs w (pair_wires ps) ≡ 2
   unfolding twice
   twice_told w e = let h = eqb-true (get_or c w 0) (base + 2) e in omega (arith, told w)
 
-  tell_twice : (w : ℕ) → occurs w ws + occurs w (pair_wires ps) ≡ 2 → twice c base w ≡ true
+  pub tell_twice : (w : ℕ) → occurs w ws + occurs w (pair_wires ps) ≡ 2 → twice c base w ≡ true
   unfolding twice
   tell_twice w e = eq-eqb (get_or c w 0) (base + 2) (omega (arith, told w))
 
   -- a wire of a pair is in that one alone
-  in_one : (w : ℕ) → In w (pair_wires ps) → occurs w (pair_wires ps) ≡ 1
+  pub in_one : (w : ℕ) → In w (pair_wires ps) → occurs w (pair_wires ps) ≡ 1
   in_one w i = omega (arith, once w, in_occurs w (pair_wires ps) i)
-
-  -- ---- from the check
-
-  module _ (a : all (alike c) ps ≡ true) (t : all (twice c base) ws ≡ true) where
-    -- a wire of a pair that occurs at all occurs once
-    at_once : (w : ℕ) → In w (pair_wires ps) → 0 < occurs w ws → occurs w ws ≡ 1
-    at_once w i h = omega (arith, in_one w i, twice_told w (all_in (twice c base) w ws t (occurs_in w ws h)))
-
-    pair_is : (p : ℕ × ℕ) → In p ps → pair_wired ws p ≡ true
-    unfolding alike
-    pair_is p i =
-        let k = in_pair p ps i in
-        let e = eqb-true (get_or c p.0 0) (get_or c p.1 0) (all_in (alike c) p ps a i) in
-        let x = told p.0 in
-        let y = told p.1 in
-        let u = in_one p.0 k.0 in
-        let v = in_one p.1 k.1 in
-        tell_pair ws p (elim (dec_lt 0 (occurs p.0 ws)) [
-          | yes h ↦
-              let m = at_once p.0 k.0 h in
-              let n = at_once p.1 k.1 (omega arith) in
-              inl (m, n)
-          | no h ↦ inr (omega arith, omega arith)
-        ])
-
-    wire_is : (w : ℕ) → In w ws → wire_wired ws ps w ≡ true
-    unfolding wire_wired
-    wire_is w i =
-        let e = twice_told w (all_in (twice c base) w ws t i) in
-        elim (dec_lt 0 (occurs w (pair_wires ps))) [
-          | yes h ↦ rw (in_any w (pair_wires ps) (occurs_in w (pair_wires ps) h))
-          | no h ↦ let n : occurs w ws ≡ 2 = omega arith in rw (n, or-true)
-        ]
 
   -- ---- to the check
 
   module _ (a : all (pair_wired ws) ps ≡ true) (t : all (wire_wired ws ps) ws ≡ true) where
-    is_alike : (p : ℕ × ℕ) → In p ps → alike c p ≡ true
+    pub is_alike : (p : ℕ × ℕ) → In p ps → alike c p ≡ true
     unfolding alike
     is_alike p i =
         let k = in_pair p ps i in
@@ -103,14 +70,14 @@ module _ (c : List ℕ) (base : ℕ) (ws : List ℕ) (ps : List (ℕ × ℕ)) (o
         eq-eqb (get_or c p.0 0) (get_or c p.1 0) (elim (pair_told ws p (all_in (pair_wired ws) p ps a i)) [ inl h ↦ omega arith | inr h ↦ omega arith ])
 
     -- a wire in no pair occurs twice
-    alone : (w : ℕ) → In w ws → (0 < occurs w (pair_wires ps) → ⊥) → occurs w ws ≡ 2
+    pub alone : (w : ℕ) → In w ws → (0 < occurs w (pair_wires ps) → ⊥) → occurs w ws ≡ 2
     unfolding wire_wired
     alone w i n = elim (either (any (eqb w) (pair_wires ps)) (eqb (occurs w ws) 2) (all_in (wire_wired ws ps) w ws t i)) [
       | inl e ↦ absurd (n (in_occurs w (pair_wires ps) (any_in w (pair_wires ps) e)))
       | inr e ↦ eqb-true (occurs w ws) 2 e
     ]
 
-    is_twice : (w : ℕ) → In w ws → twice c base w ≡ true
+    pub is_twice : (w : ℕ) → In w ws → twice c base w ≡ true
     is_twice w i = elim (dec_lt 0 (occurs w (pair_wires ps))) [
       | yes h ↦
           let q = pair_in w ps (occurs_in w (pair_wires ps) h) in
@@ -118,10 +85,3 @@ module _ (c : List ℕ) (base : ℕ) (ws : List ℕ) (ps : List (ℕ × ℕ)) (o
           tell_twice w (omega (arith, once w, in_occurs w ws i))
       | no h ↦ tell_twice w (let k = alone w i h in omega arith)
     ]
-
-  pub counts_tell : (all (alike c) ps && all (twice c base) ws) ≡ (all (pair_wired ws) ps && all (wire_wired ws ps) ws)
-  counts_tell = same_test _ _
-      (λ e. let k = both (all (alike c) ps) (all (twice c base) ws) e in
-      both_are _ _ (in_all (pair_wired ws) ps (pair_is k.0 k.1)) (in_all (wire_wired ws ps) ws (wire_is k.0 k.1)))
-      (λ e. let k = both (all (pair_wired ws) ps) (all (wire_wired ws ps) ws) e in
-      both_are _ _ (in_all (alike c) ps (is_alike k.0 k.1)) (in_all (twice c base) ws (is_twice k.0 k.1)))

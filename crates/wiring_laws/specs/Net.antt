@@ -14,7 +14,7 @@ use Rattle.stored.specs.Parts.{stands_net}
 use Rattle.tally.specs.Tally.{tally, seen, Low, Inside, inside_append, inside_more, tally_length, tally_low, tally_append, tally_seen}
 use Rattle.wiring.specs.Wiring.{twice, alike, free_wires, paired_wires, net_pairs, net_nodes, net_tallied, net_wired}
 use Rattle.wiring_laws.specs.Members.{occurs_append, occurs_once}
-use Rattle.wiring_laws.specs.Counts.{counts_tell}
+
 use Rattle.wiring_laws.specs.Inside.{Wires, net_reads}
 use Rattle.wiring_laws.specs.Places.{node_places, free_are, pairs_are, paired_are, noded_are}
 
@@ -26,12 +26,12 @@ pairs_once ps e w = occurs_once w (pair_wires ps) (both (all (λ p. ltb p.0 p.1)
 -- ---- what the counts are, of lists
 
 module _ (counts : List ℕ) (base : ℕ) (l : Low counts base) (fs ns : List ℕ) (ps : List (ℕ × ℕ)) where
-  tallied : List ℕ
+  unfoldable pub tallied : List ℕ
   tallied = tally (tally (tally counts base fs) base (pair_wires ps)) base ns
 
   module _ (f : Inside (length counts) fs) (p : Inside (length counts) (pair_wires ps)) (n : Inside (length counts) ns) where
     -- a wire's count is how often it occurs over all of them, since each has its word and no word was above the base
-    counted : (w : ℕ) → get_or tallied w 0 - base ≡ min 3 (occurs w (fs ++ ns) + occurs w (pair_wires ps))
+    pub counted : (w : ℕ) → get_or tallied w 0 - base ≡ min 3 (occurs w (fs ++ ns) + occurs w (pair_wires ps))
     unfolding tallied seen
     counted w =
         let x = l w in
@@ -41,13 +41,6 @@ module _ (counts : List ℕ) (base : ℕ) (l : Low counts base) (fs ns : List �
         let r = occurs_append w (fs ++ pair_wires ps) ns in
         let t = occurs_append w fs (pair_wires ps) in
         rw (tally_append counts base fs (pair_wires ps), tally_append counts base (fs ++ pair_wires ps) ns) (omega arith)
-
-    lists_wired : pairs_ordered ps ≡ true
-        → (all (alike tallied) ps && all (twice tallied base) fs && all (twice tallied base) ns) ≡ (all (pair_wired (fs ++ ns)) ps && all (wire_wired (fs ++ ns) ps) (fs ++ ns))
-    lists_wired o =
-        and_assoc (all (alike tallied) ps) (all (twice tallied base) fs) (all (twice tallied base) ns)
-        ∙ ap (λ t. all (alike tallied) ps && t) (sym (all_append (twice tallied base) fs ns))
-        ∙ counts_tell tallied base (fs ++ ns) ps (pairs_once ps o) counted
 
 -- ---- a net where it stands
 
@@ -67,23 +60,3 @@ module _ (s counts : List ℕ) (base at : ℕ) where
       let p = paired_wires s at in
       let k = tally_low (tally (tally counts base f) base p) base (net_nodes s at) (tally_low (tally counts base f) base p (tally_low counts base f (λ v. let y = l v in omega arith))) in
       λ w. let z = k w in omega arith
-
-  module _ (l : Low counts base) (n : FlatNet) (room : n.wires ≤ length counts) where
-    -- a net that has these parts
-    parts_wired : Wires n → pairs_ordered n.pairs ≡ true → free_wires s at ≡ n.free → net_pairs s at ≡ n.pairs
-        → paired_wires s at ≡ pair_wires n.pairs → net_nodes s at ≡ concat_map node_places n.nodes → net_wired (net_tallied counts base s at) base s at ≡ flat_wired n
-    unfolding net_wired net_tallied flat_wired places tallied
-    parts_wired w o ef ep eq en =
-        let more = inside_more n.wires (length counts) (omega arith) in
-        let ns = concat_map node_places n.nodes in
-        rw (ef, ep, eq, en) (lists_wired counts base l n.free ns n.pairs (more n.free w.frees) (more (pair_wires n.pairs) w.paired) (more ns w.noded) o)
-
-    pub net_wired_lem : (paths names : ℕ) (r : List ℕ) → read_flat_net paths names (drop at s) ≡ some (n, r) → at ≤ length s → pairs_ordered n.pairs ≡ true
-        → net_wired (net_tallied counts base s at) base s at ≡ flat_wired n
-    net_wired_lem paths names r e i o =
-        let y = (stands_net s paths names at).by n r i e in
-        let h = y.3 in
-        let q = sym y.0 in
-        parts_wired (net_reads paths names (drop at s) n r e) o
-        (free_are s at h ∙ ap (λ m. m.free) q) (pairs_are s at h ∙ ap (λ m. m.pairs) q)
-        (paired_are s at h ∙ ap (λ m. pair_wires m.pairs) q) (noded_are s at h ∙ ap (λ m. concat_map node_places m.nodes) q)

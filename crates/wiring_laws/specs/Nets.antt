@@ -24,18 +24,18 @@ use Rattle.wiring.specs.Wiring.{net_tallied}
 use Rattle.wiring.specs.Fits.{fits_cases}
 use Rattle.wiring_nets.specs.Nets.{nets_from, nets_wide, nets_wired, wide_start, nets_start, nets_zero, nets_suc}
 use Rattle.wiring_laws.specs.Inside.{Wires, net_reads}
-use Rattle.wiring_laws.specs.Net.{tallied_length, tallied_low, net_wired_lem}
+use Rattle.wiring_laws.specs.Net.{tallied_length, tallied_low}
 
 -- nets that were read one after another: the first, and the others from its end on
 module _ (s : List ℕ) (paths names : ℕ) where
-  record Split (at i n : ℕ) (ns : List FlatNet) (r : List ℕ) : Type 0 where
-    others : List FlatNet
-    all_of : ns ≡ flat_net_at s at ∷ others
-    read_one : read_flat_net paths names (drop at s) ≡ some (flat_net_at s at, drop (flat_net_end s at) s)
-    read_others : times_from (λ j. read_flat_net paths names) (suc i) n (drop (flat_net_end s at) s) ≡ some (others, r)
-    end : flat_net_end s at ≤ length s
+  pub record Split (at i n : ℕ) (ns : List FlatNet) (r : List ℕ) : Type 0 where
+    pub others : List FlatNet
+    pub all_of : ns ≡ flat_net_at s at ∷ others
+    pub read_one : read_flat_net paths names (drop at s) ≡ some (flat_net_at s at, drop (flat_net_end s at) s)
+    pub read_others : times_from (λ j. read_flat_net paths names) (suc i) n (drop (flat_net_end s at) s) ≡ some (others, r)
+    pub end : flat_net_end s at ≤ length s
 
-  split : (at i n : ℕ) (ns : List FlatNet) (r : List ℕ) → times_from (λ j. read_flat_net paths names) i (suc n) (drop at s) ≡ some (ns, r) → at ≤ length s → Split at i n ns r
+  pub split : (at i n : ℕ) (ns : List FlatNet) (r : List ℕ) → times_from (λ j. read_flat_net paths names) i (suc n) (drop at s) ≡ some (ns, r) → at ≤ length s → Split at i n ns r
   unfolding times_from
   split at i n ns r e h =
       let b = pass _ ns r (stands_net s paths names at) h e in
@@ -50,46 +50,15 @@ module _ (s : List ℕ) (paths names : ℕ) where
       }
 
   -- nets whose pairs are in order
-  abbrev Ordered : List FlatNet → Type 0
+  abbrev pub Ordered : List FlatNet → Type 0
   Ordered ns = all (λ m. pairs_ordered m.pairs) ns ≡ true
 
   -- `wide` tells of nets of which the first has more than len wires
-  abbrev Tells : (ℕ → ℕ → Bool) → ℕ → Type 0
+  abbrev pub Tells : (ℕ → ℕ → Bool) → ℕ → Type 0
   Tells wide len = (n i at : ℕ) (ns : List FlatNet) (r : List ℕ) → times_from (λ j. read_flat_net paths names) i (suc n) (drop at s) ≡ some (ns, r)
       → at ≤ length s → suc n ≤ 256 → Ordered ns → len < be32 s (at + 3) → wide at (suc n) ≡ all flat_wired ns
 
-  -- each net above the counts of the one before
-  nets_tell : (wide : ℕ → ℕ → Bool) (len : ℕ) → Tells wide len → (n i at : ℕ) (counts : List ℕ) (base : ℕ) (ns : List FlatNet) (r : List ℕ)
-      → times_from (λ j. read_flat_net paths names) i n (drop at s) ≡ some (ns, r) → at ≤ length s → n ≤ 256 → Low counts base → length counts ≡ len → Ordered ns
-      → nets_from wide counts base s at n ≡ all flat_wired ns
-  unfolding times_from flat_net_at pick
-  nets_tell wide len tells zero i at counts base ns r e h v l el o = nets_zero wide counts base s at ∙ ap (all flat_wired) (some_value e).0
-  nets_tell wide len tells (suc n) i at counts base ns r e h v l el o =
-      let d = split at i n ns r e h in
-      let c = net_tallied counts base s at in
-      let k = d.end in
-      let w : within s (flat_net_end s at) ≡ flat_net_end s at = omega arith in
-      let p = both (pairs_ordered (flat_net_at s at).pairs) (all (λ m. pairs_ordered m.pairs) d.others) (rw d.all_of at o) in
-      let g = nets_tell wide len tells n (suc i) (flat_net_end s at) c (base + 4) d.others r d.read_others k (omega arith) (tallied_low s counts base at l) (tallied_length s counts base at ∙ el) p.1 in
-      elim (fits_cases counts s at) [
-        | inl y ↦
-            let f = net_wired_lem s counts base at l (flat_net_at s at) y.1 paths names (drop (flat_net_end s at) s) d.read_one h p.0 in
-            rw (nets_suc, y.0, w, f, g) (pick_and (flat_wired (flat_net_at s at)) (all flat_wired d.others) ∙ ap (all flat_wired) (sym d.all_of))
-        | inr y ↦ rw (nets_suc, y.0) (tells n i at ns r e h v o (omega (arith, el, y.1)))
-      ]
-
   -- no net that is read has more than 65,536 wires
-  none_wider : Tells (λ a k. false) 65536
+  pub none_wider : Tells (λ a k. false) 65536
   unfolding flat_net_at
   none_wider n i at ns r e h v o l = let d = split at i n ns r e h in absurd (omega (arith, (net_reads paths names (drop at s) (flat_net_at s at) (drop (flat_net_end s at) s) d.read_one).counter))
-
-  wide_tells : Tells (nets_wide s) 1024
-  wide_tells n i at ns r e h v o l =
-      sym (wide_start s at (suc n) v) ∙ nets_tell (λ a k. false) 65536 none_wider (suc n) i at (replicate 65536 0) 0 ns r e h v (blank_low 65536) (length-replicate {A = ℕ} 65536 0) o
-
-  -- of at most 256 nets that are read from `at` on, with their pairs in order
-  pub nets_wired_lem : (at n : ℕ) (ns : List FlatNet) (r : List ℕ) → times n (read_flat_net paths names) (drop at s) ≡ some (ns, r) → at ≤ length s → n ≤ 256 → Ordered ns
-      → nets_wired s at n ≡ all flat_wired ns
-  unfolding times
-  nets_wired_lem at n ns r e h k o =
-      sym (nets_start s at n (omega arith)) ∙ nets_tell (nets_wide s) 1024 wide_tells n 0 at (replicate 1024 0) 0 ns r e h k (blank_low 1024) (length-replicate {A = ℕ} 1024 0) o

@@ -12,7 +12,8 @@ use Rattle.net_file_laws.specs.Rules.{RuleFits}
 use Rattle.net_file_laws.specs.Flat.{FlatNetFits}
 use Rattle.net_file_laws.specs.Body.{LimitFits, TablesFit}
 use Rattle.net_file_laws.specs.RoundTrip.{FileFits}
-use Rattle.size_laws.specs.Parts.{be_length, both_size, three_size, number_size, counted_size, path_size, name_size, rule_size, flat_net_size}
+use Rattle.size_laws.specs.Parts.{be_length, both_size, three_size, number_size, counted_size, path_size, name_size, rule_size}
+use Rattle.size_laws.proofs.Parts.{flat_net_size}
 
 -- the table of names: each has children below its own number
 names_size : (paths i : ℕ) (ms : List Name) → EachFrom (NameFits paths) i ms → length (concat_map write_name ms) ≤ 27 * length ms

@@ -1,0 +1,5 @@
+pub mod Begin
+pub mod Loaded
+pub mod Loads
+pub mod Net
+pub mod Start

@@ -1,0 +1,4 @@
+pub mod Exact
+pub mod Many
+pub mod Names
+pub mod Paths

@@ -1,0 +1,3 @@
+pub mod Fuel
+pub mod Links
+pub mod Resolve
