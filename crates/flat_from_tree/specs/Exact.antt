@@ -44,7 +44,8 @@ use Rattle.flat_nets.specs.declared.Total.{Total}
 use Rattle.flat_nets.specs.declared.Spot.{Spot}
 use Rattle.flat_nets.specs.Flat.{summed_all, nets_out}
 use Rattle.flat_nets_laws.specs.Clean.{Clean, clean_zeroed}
-use Rattle.flat_nets_laws.specs.Nets.{most, Counted, Fits, most_fits, flat_bytes, nets_written, nets_fit, nets_over, all_wires, all_to, all_passed, all_out, nodes_sum}
+use Rattle.flat_nets_laws.specs.Nets.{most, Counted, Fits, most_fits, flat_bytes, nets_written, nets_fit, nets_over, all_wires, nodes_sum}
+use Rattle.flat_nets_laws.proofs.Nets.{all_to, all_passed, all_out}
 use Rattle.flat_nets_laws.specs.Kept.{zeroed_within, sums_kept, nets_kept}
 use Rattle.flat_from_tree.specs.Words.{place, first, count, total, total_left, whole_out, whole_left, flat_answer, flat_left, flat_out, answer_over, left_over, out_over, answer_full, left_full, out_full, answer_done, left_done, out_done}
 

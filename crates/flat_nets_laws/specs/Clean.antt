@@ -23,7 +23,7 @@ use Rattle.flat_nets.specs.declared.Spot.{Spot}
 use Rattle.flat_nets.specs.Flat.{zero_from, empty_over, emptied, linked, passed, net_words}
 use Rattle.flat_nets_laws.specs.Links.{two_low, top_low}
 
-zeroed_word : (k : ℕ) (xs : List ℕ) (a : ℕ) → a < k → get_or (zeroed k xs) a 0 ≡ 0
+pub zeroed_word : (k : ℕ) (xs : List ℕ) (a : ℕ) → a < k → get_or (zeroed k xs) a 0 ≡ 0
 unfolding zeroed
 zeroed_word zero xs a h = absurd (not-suc-le-zero h)
 zeroed_word (suc k) [] a h = refl
@@ -48,7 +48,7 @@ pub clean_means : (ws : List ℕ) → Clean ws → Means ws []
 unfolding code get
 clean_means ws c = let l = c.long in record { long = omega arith; word = λ a h. c.zeros a (omega arith); low = λ a h. omega arith }
 
-clean_topped : (ws : List ℕ) → Clean ws → Topped ws
+pub clean_topped : (ws : List ℕ) → Clean ws → Topped ws
 clean_topped ws c = record {
   long = c.long;
   top = λ a h i. c.zeros a (omega arith);
@@ -60,37 +60,37 @@ clean_topped ws c = record {
 
 -- ---- words made 0
 
-put_zero : (ws : List ℕ) (i : ℕ) → get_or (set ws i 0) i 0 ≡ 0
+pub put_zero : (ws : List ℕ) (i : ℕ) → get_or (set ws i 0) i 0 ≡ 0
 put_zero [] zero = refl
 put_zero [] (suc i) = refl
 put_zero (w ∷ ws) zero = refl
 put_zero (w ∷ ws) (suc i) = put_zero ws i
 
 -- a word that is 0 stays so
-put_stay : (ws : List ℕ) (i a : ℕ) → get_or ws a 0 ≡ 0 → get_or (set ws i 0) a 0 ≡ 0
+pub put_stay : (ws : List ℕ) (i a : ℕ) → get_or ws a 0 ≡ 0 → get_or (set ws i 0) a 0 ≡ 0
 put_stay ws i a z = elim (ℕ_discrete a i) [ yes d ↦ rw d (put_zero ws i) | no d ↦ get_or-set_other ws i a 0 0 d ∙ z ]
 
-from_stay : (n i : ℕ) (ws : List ℕ) (a : ℕ) → get_or ws a 0 ≡ 0 → get_or (zero_from i n ws) a 0 ≡ 0
+pub from_stay : (n i : ℕ) (ws : List ℕ) (a : ℕ) → get_or ws a 0 ≡ 0 → get_or (zero_from i n ws) a 0 ≡ 0
 unfolding zero_from
 from_stay zero i ws a z = z
 from_stay (suc n) i ws a z = from_stay n (suc i) (set ws i 0) a (put_stay ws i a z)
 
-over_stay : (l : List ℕ) (ws : List ℕ) (a : ℕ) → get_or ws a 0 ≡ 0 → get_or (empty_over l ws) a 0 ≡ 0
+pub over_stay : (l : List ℕ) (ws : List ℕ) (a : ℕ) → get_or ws a 0 ≡ 0 → get_or (empty_over l ws) a 0 ≡ 0
 unfolding empty_over
 over_stay [] ws a z = z
 over_stay (w ∷ l) ws a z = over_stay l (set ws w 0) a (put_stay ws w a z)
 
-from_long : (n i : ℕ) (ws : List ℕ) → length (zero_from i n ws) ≡ length ws
+pub from_long : (n i : ℕ) (ws : List ℕ) → length (zero_from i n ws) ≡ length ws
 unfolding zero_from
 from_long zero i ws = refl
 from_long (suc n) i ws = from_long n (suc i) (set ws i 0) ∙ length-set ws i 0
 
-over_long : (l : List ℕ) (ws : List ℕ) → length (empty_over l ws) ≡ length ws
+pub over_long : (l : List ℕ) (ws : List ℕ) → length (empty_over l ws) ≡ length ws
 unfolding empty_over
 over_long [] ws = refl
 over_long (w ∷ l) ws = over_long l (set ws w 0) ∙ length-set ws w 0
 
-from_word : (n i : ℕ) (ws : List ℕ) (a : ℕ) → i ≤ a → a < i + n → get_or (zero_from i n ws) a 0 ≡ 0
+pub from_word : (n i : ℕ) (ws : List ℕ) (a : ℕ) → i ≤ a → a < i + n → get_or (zero_from i n ws) a 0 ≡ 0
 unfolding zero_from
 from_word zero i ws a h k = absurd (omega arith)
 from_word (suc n) i ws a h k = elim (dec_lt i a) [
@@ -99,13 +99,13 @@ from_word (suc n) i ws a h k = elim (dec_lt i a) [
 ]
 
 -- the wires that are looked at, and those that are passed over
-over_each : {Nothing : ℕ → Type 0} {l m : List ℕ} → Less Nothing l m → (ws : List ℕ) → ((a : ℕ) → Nothing a → get_or ws a 0 ≡ 0) → Each (λ a. get_or (empty_over l ws) a 0 ≡ 0) m
+pub over_each : {Nothing : ℕ → Type 0} {l m : List ℕ} → Less Nothing l m → (ws : List ℕ) → ((a : ℕ) → Nothing a → get_or ws a 0 ≡ 0) → Each (λ a. get_or (empty_over l ws) a 0 ≡ 0) m
 unfolding empty_over
 over_each Less.none ws z = tt
 over_each (Less.both {w} {l} t) ws z = (over_stay l (set ws w 0) w (put_zero ws w), over_each t (set ws w 0) (λ a n. put_stay ws w a (z a n)))
 over_each (Less.less {w} {l} n t) ws z = (over_stay l ws w (z w n), over_each t ws z)
 
-each_at : (P : ℕ → Type 0) (k w : ℕ) → Each P (wires_from w k) → (a : ℕ) → w ≤ a → a < w + k → P a
+pub each_at : (P : ℕ → Type 0) (k w : ℕ) → Each P (wires_from w k) → (a : ℕ) → w ≤ a → a < w + k → P a
 unfolding wires_from
 each_at P zero w h a i j = absurd (omega arith)
 each_at P (suc k) w h a i j = elim (dec_lt w a) [
@@ -115,21 +115,21 @@ each_at P (suc k) w h a i j = elim (dec_lt w a) [
 
 -- nothing is left in the table
 module _ (ws : List ℕ) (t : Topped ws) where
-  abbrev e : ℕ
+  abbrev pub e : ℕ
   e = extent ws 65536
 
-  abbrev u : List ℕ
+  abbrev pub u : List ℕ
   u = empty_over (looks_below ws 65536) ws
 
-  abbrev v : List ℕ
+  abbrev pub v : List ℕ
   v = zero_from 65536 (1 + (e + 1023) / 1024) u
 
   -- a word that was 0 is so still
-  was_zero : (a : ℕ) → get_or ws a 0 ≡ 0 → get_or (emptied ws) a 0 ≡ 0
+  pub was_zero : (a : ℕ) → get_or ws a 0 ≡ 0 → get_or (emptied ws) a 0 ≡ 0
   unfolding emptied
   was_zero a z = from_stay ((e + 31) / 32) 65601 v a (from_stay (1 + (e + 1023) / 1024) 65536 u a (over_stay (looks_below ws 65536) ws a z))
 
-  wire_zero : (a : ℕ) → a < 65536 → get_or (emptied ws) a 0 ≡ 0
+  pub wire_zero : (a : ℕ) → a < 65536 → get_or (emptied ws) a 0 ≡ 0
   unfolding emptied
   wire_zero a h = elim (dec_lt a e) [
     | yes i ↦
@@ -138,7 +138,7 @@ module _ (ws : List ℕ) (t : Topped ws) where
     | no i ↦ was_zero a (t.top a h (extent_under ws 65536 a h (omega arith)))
   ]
 
-  row_zero : (i : ℕ) → i < 65 → get_or (emptied ws) (65536 + i) 0 ≡ 0
+  pub row_zero : (i : ℕ) → i < 65 → get_or (emptied ws) (65536 + i) 0 ≡ 0
   unfolding emptied
   row_zero i h = elim (dec_lt i (1 + (e + 1023) / 1024)) [
     | yes k ↦ from_stay ((e + 31) / 32) 65601 v (65536 + i) (from_word (1 + (e + 1023) / 1024) 65536 u (65536 + i) (omega arith) (omega arith))
@@ -147,14 +147,14 @@ module _ (ws : List ℕ) (t : Topped ws) where
         was_zero (65536 + i) (rw (← j) (t.rows (i - 1) (omega arith) (extent_under ws 65536 (1024 * (i - 1)) (omega arith) (omega arith))))
   ]
 
-  block_zero : (i : ℕ) → i < 2048 → get_or (emptied ws) (65601 + i) 0 ≡ 0
+  pub block_zero : (i : ℕ) → i < 2048 → get_or (emptied ws) (65601 + i) 0 ≡ 0
   unfolding emptied
   block_zero i h = elim (dec_lt i ((e + 31) / 32)) [
     | yes k ↦ from_word ((e + 31) / 32) 65601 v (65601 + i) (omega arith) (omega arith)
     | no k ↦ was_zero (65601 + i) (t.blocks i h (extent_under ws 65536 (32 * i) (omega arith) (omega arith)))
   ]
 
-  all_zero : (a : ℕ) → a < 67649 → get_or (emptied ws) a 0 ≡ 0
+  pub all_zero : (a : ℕ) → a < 67649 → get_or (emptied ws) a 0 ≡ 0
   all_zero a h = elim (dec_lt a 65536) [
     | yes i ↦ wire_zero a i
     | no i ↦ elim (dec_lt a 65601) [
@@ -173,27 +173,19 @@ module _ (ws : List ℕ) (t : Topped ws) where
 -- ---- links stay below the word behind the table
 
 module _ (s : List ℕ) (bytes : Bytes s) where
-  hung_topped : (ws : List ℕ) → Topped ws → (a : Growth) → a.top < 65536 → Topped (hung s ws a)
+  pub hung_topped : (ws : List ℕ) → Topped ws → (a : Growth) → a.top < 65536 → Topped (hung s ws a)
   unfolding hung
   hung_topped ws t a h = eq_split _ _ _ _ Topped (λ e. topped_linked ws t a.top (be16 s (a.at + 1)) h (two_low s bytes (a.at + 1))) (λ e. t)
 
-  links_topped : (k : ℕ) (ws : List ℕ) → Topped ws → (g : Growth) → Topped (links_hung s ws g k)
+  pub links_topped : (k : ℕ) (ws : List ℕ) → Topped ws → (g : Growth) → Topped (links_hung s ws g k)
   unfolding links_hung link_hung left_walked
   links_topped zero ws t g = t
   links_topped (suc k) ws t g = links_topped k (link_hung s ws g) (hung_topped ws t (left_walked s g) (top_low s bytes 64 g 65536)) (link_walked s g)
 
-  net_topped : (ws : List ℕ) → Topped ws → (at to aux : ℕ) → Topped (net_hung s ws at to aux)
+  pub net_topped : (ws : List ℕ) → Topped ws → (at to aux : ℕ) → Topped (net_hung s ws at to aux)
   unfolding net_hung
   net_topped ws t at to aux = links_topped _ ws t _
 
   pub linked_topped : (ws : List ℕ) → Clean ws → (at : ℕ) → Topped (linked s ws at)
   unfolding linked
   linked_topped ws c at = net_topped ws (clean_topped ws c) at 0 0
-
-  pub passed_clean : (ws : List ℕ) → Clean ws → (at : ℕ) → Clean (passed s ws at)
-  unfolding passed
-  passed_clean ws c at = links_emptied (linked s ws at) (linked_topped ws c at)
-
-  pub words_clean : (ws : List ℕ) → Clean ws → (p : Spot) → Clean (net_words s ws p)
-  unfolding net_words
-  words_clean ws c p = links_emptied _ (net_topped (linked s ws p.at) (linked_topped ws c p.at) p.at _ _)

@@ -29,7 +29,7 @@ use Rattle.flat_nets.specs.declared.Total.{Total}
 use Rattle.flat_nets.specs.declared.Spot.{Spot}
 use Rattle.flat_nets.specs.Flat.{passed, summed, summed_all, passed_all, net_spot, net_words, net_out, nets_out}
 use Rattle.flat_nets_laws.specs.Links.{link_nodes, links_nodes}
-use Rattle.flat_nets_laws.specs.Clean.{Clean, passed_clean, words_clean}
+use Rattle.flat_nets_laws.specs.Clean.{Clean}
 use Rattle.flat_nets_laws.specs.Net.{node_count}
 use Rattle.flat_nets_laws.specs.Flat.{measured_end, measured_wires, size_is, net_out_lem, spot_at, spot_to}
 
@@ -81,31 +81,31 @@ module _ (s : List ℕ) (bytes : Bytes s) where
   abbrev pub nets_from : ℕ → ℕ → List TreeNet
   nets_from p k = table_at (tree_net_at s) (tree_net_end s) p k
 
-  first_inside : (a k : ℕ) → table_end (tree_net_end s) (tree_net_end s a) k ≤ length s → tree_net_end s a ≤ length s
+  pub first_inside : (a k : ℕ) → table_end (tree_net_end s) (tree_net_end s a) k ≤ length s → tree_net_end s a ≤ length s
   first_inside a k i = let u = table_up (tree_net_end s) (net_up s) (tree_net_end s a) k in omega arith
 
   module _ (ws : List ℕ) (t : Total) (i : tree_net_end s t.at ≤ length s) (c : Counted (tree_net_at s t.at)) where
-    counter_low : be32 s (t.at + 3) ≤ 65536
+    pub counter_low : be32 s (t.at + 3) ≤ 65536
     unfolding tree_net_at
     counter_low = c.0
 
-    summed_at : (summed s ws t).at ≡ tree_net_end s t.at
+    pub summed_at : (summed s ws t).at ≡ tree_net_end s t.at
     unfolding summed
     summed_at = lt_split _ _ _ _ (λ (x : Total). x.at ≡ tree_net_end s t.at) (λ h. measured_end s bytes t.at i counter_low ws) (λ h. measured_end s bytes t.at i counter_low ws)
 
-    summed_wires : (summed s ws t).wires ≡ max t.wires (min 65537 (flat_wires (tree_net_at s t.at)))
+    pub summed_wires : (summed s ws t).wires ≡ max t.wires (min 65537 (flat_wires (tree_net_at s t.at)))
     unfolding summed
     summed_wires =
         let m = measured_wires s bytes t.at i counter_low ws in
         lt_split _ _ _ _ (λ (x : Total). x.wires ≡ max t.wires (min 65537 (flat_wires (tree_net_at s t.at)))) (λ h. omega arith) (λ h. omega arith)
 
-    summed_to : Fits (tree_net_at s t.at) → Clean ws → (summed s ws t).to ≡ min far (t.to + length (write_flat_net (flat_of (tree_net_at s t.at))))
+    pub summed_to : Fits (tree_net_at s t.at) → Clean ws → (summed s ws t).to ≡ min far (t.to + length (write_flat_net (flat_of (tree_net_at s t.at))))
     unfolding summed on
     summed_to f clean =
         let z = size_is s bytes t.at i counter_low ws f clean in
         lt_split _ _ _ _ (λ (x : Total). x.to ≡ min far (t.to + length (write_flat_net (flat_of (tree_net_at s t.at))))) (λ h. omega arith) (λ h. omega arith)
 
-  most_as : (k : ℕ) {p e n m : ℕ} → p ≡ e → n ≡ m → most (nets_from p k) n ≡ most (nets_from e k) m
+  pub most_as : (k : ℕ) {p e n m : ℕ} → p ≡ e → n ≡ m → most (nets_from p k) n ≡ most (nets_from e k) m
   most_as k ep en = rw (ep, en)
 
   -- the greatest counter
@@ -120,66 +120,18 @@ module _ (s : List ℕ) (bytes : Bytes s) where
       let d : Each Counted (nets_from x.at k) = rw e c.1 in
       all_wires k (passed s ws t.at) x (rw e i) d ∙ most_as k e (summed_wires ws t j c.0)
 
-  -- how long they are, where all fit
-  pub all_to : (k : ℕ) (ws : List ℕ) → Clean ws → (t : Total) → t.to ≤ far → table_end (tree_net_end s) t.at k ≤ length s → Each Counted (nets_from t.at k) → Each Fits (nets_from t.at k)
-      → (summed_all s ws t k).to ≡ min far (t.to + length (flat_bytes (nets_from t.at k)))
-  unfolding summed_all table_at table_end flat_bytes
-  all_to zero ws clean t h i c f = omega arith
-  all_to (suc k) ws clean t h i c f =
-      let j = first_inside t.at k i in
-      let x = summed s ws t in
-      let e = summed_at ws t j c.0 in
-      let d : Each Counted (nets_from x.at k) = rw e c.1 in
-      let g : Each Fits (nets_from x.at k) = rw e f.1 in
-      let o = summed_to ws t j c.0 f.0 clean in
-      let y = write_flat_net (flat_of (tree_net_at s t.at)) in
-      let l = length-append y (flat_bytes (nets_from (tree_net_end s t.at) k)) in
-      let r = all_to k (passed s ws t.at) (passed_clean s bytes ws clean t.at) x (omega arith) (rw e i) d g in
-      r ∙ ap (λ p. min far (x.to + length (flat_bytes (nets_from p k)))) e ∙ omega arith
-
-  -- the table is without links again
-  pub all_passed : (k : ℕ) (ws : List ℕ) → Clean ws → (t : Total) → Clean (passed_all s ws t k)
-  unfolding passed_all
-  all_passed zero ws clean t = clean
-  all_passed (suc k) ws clean t = all_passed k (passed s ws t.at) (passed_clean s bytes ws clean t.at) (summed s ws t)
-
-  -- ---- written
-
-  pub all_out : (k : ℕ) (ws : List ℕ) → Clean ws → (p : Spot) → table_end (tree_net_end s) p.at k ≤ length s → Each Counted (nets_from p.at k) → Each Fits (nets_from p.at k)
-      → (out : List ℕ) → length out ≤ far → p.to + length (flat_bytes (nets_from p.at k)) ≤ far
-      → nets_out s ws p k out ≡ sets out p.to (flat_bytes (nets_from p.at k))
-  unfolding nets_out table_at table_end flat_bytes
-  all_out zero ws clean p i c f out room said = refl
-  all_out (suc k) ws clean p i c f out room said =
-      let j = first_inside p.at k i in
-      let w = counter_low ws (record { at = p.at; wires = 0; to = 0 }) j c.0 in
-      let y = write_flat_net (flat_of (tree_net_at s p.at)) in
-      let z = flat_bytes (nets_from (tree_net_end s p.at) k) in
-      let l = length-append y z in
-      let x = net_spot s ws p in
-      let ea = spot_at s bytes p.at j w ws f.0 clean c.0.1 p.to out room (omega arith) in
-      let et = spot_to s bytes p.at j w ws f.0 clean c.0.1 p.to out room (omega arith) in
-      let eo = net_out_lem s bytes p.at j w ws f.0 clean c.0.1 p.to out room (omega arith) in
-      let d : Each Counted (nets_from x.at k) = rw ea c.1 in
-      let g : Each Fits (nets_from x.at k) = rw ea f.1 in
-      let q : length (net_out s ws p out) ≤ far = rw (eo, length-sets out p.to y) room in
-      let b : x.to + length (flat_bytes (nets_from x.at k)) ≤ far = rw ea (omega arith) in
-      all_out k (net_words s ws p) (words_clean s bytes ws clean p) x (rw ea i) d g (net_out s ws p out) q b
-      ∙ (λ i. sets (eo i) (et i) (flat_bytes (nets_from (ea i) k)))
-      ∙ sets_then out p.to (p.to + length y) y z refl
-
 -- ---- a net's nodes, as check 5 counts them
 
-sum_append : (xs ys : List Tree) → sum (map nodes_of (xs ++ ys)) ≡ sum (map nodes_of xs) + sum (map nodes_of ys)
+pub sum_append : (xs ys : List Tree) → sum (map nodes_of (xs ++ ys)) ≡ sum (map nodes_of xs) + sum (map nodes_of ys)
 sum_append [] ys = omega arith
 sum_append (x ∷ xs) ys = let e = sum_append xs ys in omega arith
 
-free_sum : (ts : List Tree) → nodes_of_all (trees ts) ≡ sum (map nodes_of ts)
+pub free_sum : (ts : List Tree) → nodes_of_all (trees ts) ≡ sum (map nodes_of ts)
 unfolding nodes_of_all
 free_sum [] = refl
 free_sum (t ∷ ts) = let e = free_sum ts in omega arith
 
-links_sum : (ls : List (Tree × Tree)) → links_nodes ls ≡ sum (map nodes_of (concat_map (λ l. l.0 ∷ l.1 ∷ []) ls))
+pub links_sum : (ls : List (Tree × Tree)) → links_nodes ls ≡ sum (map nodes_of (concat_map (λ l. l.0 ∷ l.1 ∷ []) ls))
 unfolding links_nodes link_nodes
 links_sum [] = refl
 links_sum (l ∷ ls) = let e = links_sum ls in omega arith

@@ -38,24 +38,24 @@ reached_in f es seen h c i (entry e) = h i e
 reached_in f es seen h c i (onward {i = j} r e) = c j i (reached_in f es seen h c j r) e
 
 module _ (f : File FlatNet) (n : ℕ) (small : (i j : ℕ) → In j (next f i) → j < n) where
-  round : List ℕ → List ℕ
+  pub round : List ℕ → List ℕ
   round seen = join seen (concat_map (next f) seen)
 
-  round_apart : (seen : List ℕ) → Apart n seen → Apart n (round seen)
+  pub round_apart : (seen : List ℕ) → Apart n seen → Apart n (round seen)
   unfolding round
   round_apart seen a = apart_join n seen (concat_map (next f) seen) a (λ j k. let r = in_one (next f) j seen k in small r.0 j r.2)
 
   -- a round that adds nothing
-  rests : (seen : List ℕ) → round seen ≡ seen → Closed f seen
+  pub rests : (seen : List ℕ) → round seen ≡ seen → Closed f seen
   unfolding round
   rests seen e i j h k = in_as j _ _ (sym e) (join_adds j seen (concat_map (next f) seen) (in_many (next f) i j seen h k))
 
-  reach_rests : (k : ℕ) (seen : List ℕ) → round seen ≡ seen → reach k f seen ≡ seen
+  pub reach_rests : (k : ℕ) (seen : List ℕ) → round seen ≡ seen → reach k f seen ≡ seen
   unfolding reach round
   reach_rests zero seen e = refl
   reach_rests (suc k) seen e = ap (reach k f) e ∙ reach_rests k seen e
 
-  reach_closed : (k : ℕ) (seen : List ℕ) → Apart n seen → n ≤ length seen + k → Closed f (reach k f seen)
+  pub reach_closed : (k : ℕ) (seen : List ℕ) → Apart n seen → n ≤ length seen + k → Closed f (reach k f seen)
   unfolding reach round
   reach_closed zero seen a h =
       let l = apart_few n (round seen) (round_apart seen a) in
@@ -67,12 +67,12 @@ module _ (f : File FlatNet) (n : ℕ) (small : (i j : ℕ) → In j (next f i) �
         subst (Closed f) (sym (reach_rests (suc k) seen e)) (rests seen e)
   ]
 
-  reach_keeps : (k i : ℕ) (seen : List ℕ) → In i seen → In i (reach k f seen)
+  pub reach_keeps : (k i : ℕ) (seen : List ℕ) → In i seen → In i (reach k f seen)
   unfolding reach
   reach_keeps zero i seen h = h
   reach_keeps (suc k) i seen h = reach_keeps k i (join seen (concat_map (next f) seen)) (join_keeps i seen (concat_map (next f) seen) h)
 
-  reach_sound : (es : List ℕ) (k : ℕ) (seen : List ℕ) → ((i : ℕ) → In i seen → Reached f es i) → (i : ℕ) → In i (reach k f seen) → Reached f es i
+  pub reach_sound : (es : List ℕ) (k : ℕ) (seen : List ℕ) → ((i : ℕ) → In i seen → Reached f es i) → (i : ℕ) → In i (reach k f seen) → Reached f es i
   unfolding reach
   reach_sound es zero seen h i m = h i m
   reach_sound es (suc k) seen h i m = reach_sound es k (join seen (concat_map (next f) seen)) more i m
@@ -89,11 +89,3 @@ module _ (f : File FlatNet) (n : ℕ) (small : (i j : ℕ) → In j (next f i) �
 
   pub entries_only : (es : List ℕ) (i : ℕ) → In i (join [] es) → Reached f es i
   entries_only es i h = elim (join_only i [] es h) [ inl e ↦ false_true e | inr e ↦ entry e ]
-
-  -- pruning keeps exactly what is reached
-  pub reach_exact : (es : List ℕ) → ((i : ℕ) → In i es → i < n) → (i : ℕ) → In i (reach n f (join [] es)) ↔ Reached f es i
-  reach_exact es h i = (
-    reach_sound es n (join [] es) (entries_only es) i,
-    reached_in f es (reach n f (join [] es)) (λ j k. reach_keeps n j (join [] es) (entries_in es j k))
-        (reach_closed n (join [] es) (apart_join n [] es (apart_none n) h) (omega arith)) i,
-  )

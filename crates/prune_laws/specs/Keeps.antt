@@ -8,7 +8,7 @@ use Rattle.net_file_laws.specs.Bytes.{Bytes}
 use Rattle.net_file_laws.proofs.RoundTrip.{flat_write_read}
 use Rattle.conversions.specs.Prune.{Reached, join, reach, keep_nets, prune}
 use Rattle.prune_laws.specs.Members.{In, tested}
-use Rattle.prune_laws.specs.Exact.{reach_exact}
+
 use Rattle.prune_laws.specs.Below.{next_below}
 use Rattle.prune_laws.specs.Accepts.{keep_none, keep_yes, keep_not}
 
@@ -17,34 +17,25 @@ pub data Of (n : FlatNet) : List FlatNet → Type 0 where
   first : {ns : List FlatNet} → Of n (n ∷ ns)
   later : {m : FlatNet} {ns : List FlatNet} → Of n ns → Of n (m ∷ ns)
 
-none_of : (n : FlatNet) {X : Type 0} → Of n [] → X
+pub none_of : (n : FlatNet) {X : Type 0} → Of n [] → X
 none_of n = elim [ ]
 
-first_of_lem : (seen : List ℕ) (n m : FlatNet) (ns ks : List FlatNet) → In m.name seen → Of n (m ∷ ks) → (Of n ks → Of n ns × In n.name seen) → Of n (m ∷ ns) × In n.name seen
+pub first_of_lem : (seen : List ℕ) (n m : FlatNet) (ns ks : List FlatNet) → In m.name seen → Of n (m ∷ ks) → (Of n ks → Of n ns × In n.name seen) → Of n (m ∷ ns) × In n.name seen
 first_of_lem seen n m ns ks e first k = (first, e)
 first_of_lem seen n m ns ks e (later q) k = let r = k q in (later r.0, r.1)
 
 -- those that stay are nets of the list whose names were seen
-kept_of : (seen : List ℕ) (n : FlatNet) (ns : List FlatNet) → Of n (keep_nets seen ns) → Of n ns × In n.name seen
+pub kept_of : (seen : List ℕ) (n : FlatNet) (ns : List FlatNet) → Of n (keep_nets seen ns) → Of n ns × In n.name seen
 kept_of seen n [] o = none_of n (subst (Of n) (keep_none seen) o)
 kept_of seen n (m ∷ ns) o = elim (tested (any (eqb m.name) seen)) [
   | inl e ↦ first_of_lem seen n m ns (keep_nets seen ns) e (subst (Of n) (keep_yes seen m ns e) o) (kept_of seen n ns)
   | inr e ↦ let r = kept_of seen n ns (subst (Of n) (keep_not seen m ns e) o) in (later r.0, r.1)
 ]
 
-of_kept : (seen : List ℕ) (n : FlatNet) (ns : List FlatNet) → Of n ns → In n.name seen → Of n (keep_nets seen ns)
+pub of_kept : (seen : List ℕ) (n : FlatNet) (ns : List FlatNet) → Of n ns → In n.name seen → Of n (keep_nets seen ns)
 of_kept seen n (m ∷ ns) first h = subst (Of n) (sym (keep_yes seen n ns h)) first
 of_kept seen n (m ∷ ns) (later o) h = elim (tested (any (eqb m.name) seen)) [
   | inl e ↦ subst (Of n) (sym (keep_yes seen m ns e)) (later (of_kept seen n ns o h))
   | inr e ↦ subst (Of n) (sym (keep_not seen m ns e)) (of_kept seen n ns o h)
 ]
 of_kept seen n [] x'' h = elim x'' [ ]
-
--- sound and complete
-pub keeps_reached : (bs : List ℕ) → Bytes bs → (f : File FlatNet) → read flat bs ≡ ok f → (i : ℕ) (is : List ℕ) → ((j : ℕ) → In j (i ∷ is) → j < length f.names)
-    → (n : FlatNet) → Of n (prune f (i ∷ is)).nets ↔ (Of n f.nets × Reached f (i ∷ is) n.name)
-unfolding prune
-keeps_reached bs h f e i is b n =
-    let seen = reach (length f.names) f (join [] (i ∷ is)) in
-    let r = reach_exact f (length f.names) (next_below f (flat_write_read bs h f e).fits.tables) (i ∷ is) b n.name in
-    (λ o. let k = kept_of seen n f.nets o in (k.0, r.0 k.1), λ k. of_kept seen n f.nets k.0 (r.1 k.1))

@@ -14,7 +14,8 @@ use Rattle.list_laws.specs.Tests.{same_test}
 use Rattle.words.specs.Choose.{lt_cases}
 use Rattle.conversions.specs.Prune.{next, Reached, onward, join, reach}
 use Rattle.prune_laws.specs.Members.{In, tested, false_true, in_here, in_there, in_cases, join_none, join_seen, join_new, join_keeps, join_adds, join_only}
-use Rattle.prune_laws.specs.Exact.{Closed, Apart, apart_join, apart_few, apart_none, reached_in, reach_exact, entries_in, entries_only}
+use Rattle.prune_laws.specs.Exact.{Closed, Apart, apart_join, apart_few, apart_none, reached_in, entries_in, entries_only}
+use Rattle.prune_laws.proofs.Exact.{reach_exact}
 use Rattle.reach_names.specs.Reach.{Met, mark_all, close, from_entries}
 use Rattle.reach_laws.specs.Marks.{Shows, get_left, all_shows}
 

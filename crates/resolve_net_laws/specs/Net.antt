@@ -48,12 +48,12 @@ use Rattle.resolve_net_laws.specs.Copied.{Put}
 use Rattle.resolve_net_laws.specs.Lies.{NetLies}
 use Rattle.resolve_net_laws.specs.Ways.{plain_is}
 use Rattle.resolve_net_laws.specs.Only.{Only}
-use Rattle.resolve_net_laws.specs.Touched.{Mine, prepared_only, freed_long}
-use Rattle.resolve_net_laws.specs.Renamed.{Whole, RenamedIs, renamed_is}
+use Rattle.resolve_net_laws.specs.Touched.{Mine, freed_long}
+use Rattle.resolve_net_laws.specs.Renamed.{Whole, RenamedIs}
 
 -- ---- a sorted list is as long
 
-put_length : (e : ℕ × Tree) (es : List (ℕ × Tree)) → length (put e es) ≡ suc (length es)
+pub put_length : (e : ℕ × Tree) (es : List (ℕ × Tree)) → length (put e es) ≡ suc (length es)
 unfolding put
 put_length e [] = refl
 put_length e (f ∷ fs) = go (ltb e.0 f.0) (put_length e fs)
@@ -62,7 +62,7 @@ put_length e (f ∷ fs) = go (ltb e.0 f.0) (put_length e fs)
     go true h = refl
     go false h = ap suc h
 
-sorted_length : (es : List (ℕ × Tree)) → length (sorted es) ≡ length es
+pub sorted_length : (es : List (ℕ × Tree)) → length (sorted es) ≡ length es
 unfolding sorted
 sorted_length [] = refl
 sorted_length (e ∷ es) = put_length e (sorted es) ∙ ap suc (sorted_length es)
@@ -70,29 +70,29 @@ sorted_length (e ∷ es) = put_length e (sorted es) ∙ ap suc (sorted_length es
 -- ---- both passes
 
 module _ (s : List ℕ) (m : TreeNet) (at p : ℕ) (k : NetLies s m at p) (small : length s ≤ 4294967299) (ws : List ℕ) (room : 262144 ≤ length ws) (bytes : Bytes s) (empty : Empty ws) where
-  abbrev n : ℕ
+  abbrev pub n : ℕ
   n = m.wires
 
-  abbrev none_yet : Passed
+  abbrev pub none_yet : Passed
   none_yet = record { kept = 0; left = 0 }
 
-  start : Meant s n ws (record { links = []; trees = [] })
+  pub start : Meant s n ws (record { links = []; trees = [] })
   start = let f = k.few in record { links = table_empty (LinkFor n) 0 n ws (omega arith) empty; trees = table_empty (HungAt s n) 65536 n ws (omega arith) empty }
 
-  abbrev linked : Left ℕ
+  abbrev pub linked : Left ℕ
   linked = code.wire_links ws s (p + 2) (length m.links)
 
   -- behind the net
   abbrev pub end : ℕ
   end = p + 2 + links_long s n k.few m.links
 
-  linking : (linked.is ≡ end) × Linking s n k.few ws linked.ws (record { links = wire_links m.links []; trees = [] })
+  pub linking : (linked.is ≡ end) × Linking s n k.few ws linked.ws (record { links = wire_links m.links []; trees = [] })
   linking = links_are s n k.few m.links ws (record { links = []; trees = [] }) (p + 2) k.lies start
 
-  abbrev done : Left Passed
+  abbrev pub done : Left Passed
   done = code.pass linked.ws s (p + 2) (length m.links) none_yet
 
-  came : Came s n k.few small linked.ws none_yet 0 done (passed m)
+  pub came : Came s n k.few small linked.ws none_yet 0 done (passed m)
   unfolding Keys Low Hang
   came =
       let f = k.few_links in
@@ -109,23 +109,19 @@ module _ (s : List ℕ) (m : TreeNet) (at p : ℕ) (k : NetLies s m at p) (small
         room = omega arith;
       })
 
-  long : length done.ws ≡ length ws
+  pub long : length done.ws ≡ length ws
   long = came.before.long ∙ linking.1.above.long
 
   -- only nodes are left hanging
   pub left_nodes : Nodes (passed m).1.trees
   left_nodes = came.passing.nodes
 
-  prepare_is : prepare s ws at ≡ record { is = record { links = p; end = end; kept = done.is.kept; left = done.is.left }; ws = done.ws }
+  pub prepare_is : prepare s ws at ≡ record { is = record { links = p; end = end; kept = done.is.kept; left = done.is.left }; ws = done.ws }
   unfolding prepare pass_links
   prepare_is =
       let r = k.room in
       let i : within s (p + 2) ≡ p + 2 = omega arith in
       rw (k.place, i, k.links, linking.0)
-
-  -- the tables speak of the wires of links only
-  mine : Only (Mine s bytes at) done.ws
-  mine = subst (λ (x : Left Ready). Only (Mine s bytes at) x.ws) prepare_is (prepared_only s bytes at ws empty)
 
   -- ---- the net
 
@@ -139,30 +135,30 @@ module _ (s : List ℕ) (m : TreeNet) (at p : ℕ) (k : NetLies s m at p) (small
     NetOut (refuse r) x = x.is ≡ Deep
     NetOut (ok y) x = NetIs y x
 
-    abbrev ls : List (Tree × Tree)
+    abbrev pub ls : List (Tree × Tree)
     ls = (passed m).0
 
-    abbrev h : Hung
+    abbrev pub h : Hung
     h = (passed m).1
 
-    kept_is : done.is.kept ≡ length ls
+    pub kept_is : done.is.kept ≡ length ls
     kept_is = let e = came.kept in omega arith
 
-    abbrev copied : Inked ℕ
+    abbrev pub copied : Inked ℕ
     copied = plain s done.ws out at p (length ls) to
 
-    abbrev visited : Penned Stepped
+    abbrev pub visited : Penned Stepped
     visited = renamed s done.ws out at p n (length ls) to
 
-    net_zero : done.is.left ≡ 0 → net s ws out at to ≡ record { is = At (record { from = end; to = copied.is }); ws = freed s done.ws p; out = copied.out }
+    pub net_zero : done.is.left ≡ 0 → net s ws out at to ≡ record { is = At (record { from = end; to = copied.is }); ws = freed s done.ws p; out = copied.out }
     unfolding net resolved
     net_zero z = rw (prepare_is, kept_is, ← eq_yes {A = Penned Stepped} done.is.left 0 (record { is = At (record { from = end; to = copied.is }); ws = done.ws; out = copied.out }) _ z refl)
 
-    net_more : (done.is.left ≡ 0 → ⊥) → net s ws out at to ≡ record { is = onward visited.is end; ws = freed s visited.ws p; out = visited.out }
+    pub net_more : (done.is.left ≡ 0 → ⊥) → net s ws out at to ≡ record { is = onward visited.is end; ws = freed s visited.ws p; out = visited.out }
     unfolding net resolved
     net_more z = rw (prepare_is, kept_is, k.wires, ← eq_no {A = Penned Stepped} done.is.left 0 _ (record { is = onward visited.is end; ws = visited.ws; out = visited.out }) z refl)
 
-    plain_net : done.is.left ≡ 0 → NetOut (walked m) (net s ws out at to)
+    pub plain_net : done.is.left ≡ 0 → NetOut (walked m) (net s ws out at to)
     unfolding walked walked_by
     plain_net z =
         let f = came.passing.few_kept in
@@ -171,39 +167,10 @@ module _ (s : List ℕ) (m : TreeNet) (at p : ℕ) (k : NetLies s m at p) (small
         let q = plain_is s m at p k out to low done.ws ls came.from (omega arith) in
         rw (net_zero z, eq-eqb (length h.trees) 0 e) (record { is = ap (λ j. At (record { from = end; to = j })) q.is; long = freed_long s done.ws p ∙ long; stored = q.stored })
 
-    onward_deep : (t : Stepped) → t ≡ Deep → onward t end ≡ Deep
+    pub onward_deep : (t : Stepped) → t ≡ Deep → onward t end ≡ Deep
     unfolding onward on_step
     onward_deep t e = rw e
 
-    onward_on : (t : Stepped) (j : ℕ) → t ≡ At (record { from = 0; to = j }) → onward t end ≡ At (record { from = end; to = j })
+    pub onward_on : (t : Stepped) (j : ℕ) → t ≡ At (record { from = 0; to = j }) → onward t end ≡ At (record { from = end; to = j })
     unfolding onward on_step
     onward_on t j e = rw e
-
-    onward_out : (y : Result TreeNet) → RenamedIs s m at p k done.ws out to low ls h came.from came.passing.meant bytes mine y visited
-        → NetOut y (record { is = onward visited.is end; ws = freed s visited.ws p; out = visited.out })
-    onward_out (refuse r) g = onward_deep visited.is g
-    onward_out (ok y) g = record { is = onward_on visited.is (on to (length (write_tree_net y))) g.is; long = freed_long s visited.ws p ∙ g.frame.long ∙ long; stored = g.stored }
-
-    renamed_net : (done.is.left ≡ 0 → ⊥) → NetOut (walked m) (net s ws out at to)
-    unfolding walked walked_by limited_all
-    renamed_net z =
-        let c = length h.trees in
-        let d = came.passing.nodes in
-        let u = visit_all (visit c) (trees m.free) h in
-        let ku = all_keeps c (trees m.free) h in
-        let v = visits (visit_link (suc c)) ls u.1 in
-        let kv = links_keep (suc c) ls u.1 in
-        let mu = ku.most in
-        let mv = kv.most in
-        let ea : walk_all (walk 64) (trees m.free) h ≡ cut (deeper_any 64 u.0) u = walk_all_lem c 64 (trees m.free) h d (omega arith) in
-        let eb : walk_links 64 ls u.1 ≡ cut (deep_links 64 v.0) v = walk_links_lem (suc c) 64 ls u.1 (ku.nodes IsNode d) (omega arith) in
-        let l = came.passing.left in
-        let f = came.passing.few_both in
-        let q = kept_is in
-        let g = renamed_is s m at p k done.ws out to low ls h came.from came.passing.meant bytes mine (deeper_any 64 u.0) (deep_links 64 v.0) u v ea eb
-        (kv.keys (ku.keys came.passing.keys)) (kv.low n (ku.low n came.passing.low)) (omega (arith, sorted_length v.1.trees)) in
-        let t : eqb c 0 ≡ false = ne_eqb c 0 (λ y. z (l ∙ y)) in
-        rw (net_more z, t, ea) (onward_out (on_free m ls (cut (deeper_any 64 u.0) u)) g)
-
-    pub net_resolves : NetOut (walked m) (net s ws out at to)
-    net_resolves = elim (ℕ_discrete done.is.left 0) [ yes z ↦ plain_net z | no z ↦ renamed_net z ]

@@ -35,20 +35,20 @@ use Rattle.resolve_net_laws.specs.Lies.{front, NetLies, net_bytes}
 use Rattle.net_file_laws.specs.Bytes.{Bytes}
 use Rattle.wire_tables.specs.Tables.{hung}
 use Rattle.resolve_net_laws.specs.Only.{Only, visited_only, frees_only}
-use Rattle.resolve_net_laws.specs.Touched.{Seen, Mine, none_unseen}
+use Rattle.resolve_net_laws.specs.Touched.{Seen, Mine}
 use Rattle.resolve_net_laws.specs.Ways.{all_links, link_bytes, links_ended}
 
 -- ---- the links
 
 module _ (s : List ℕ) (n : ℕ) (few : n ≤ 65536) (ws out : List ℕ) (to : ℕ) (low : to ≤ most) (ls : List (Tree × Tree)) (at : ℕ) where
-  abbrev visited : Penned Stepped
+  abbrev pub visited : Penned Stepped
   visited = visit_links s (length ls) ws out 0 (on to 2)
 
-  links_deep : visited.is ≡ Deep → (renamed_links s ws out at n (length ls) to).is ≡ Deep
+  pub links_deep : visited.is ≡ Deep → (renamed_links s ws out at n (length ls) to).is ≡ Deep
   unfolding renamed_links on_step
   links_deep e = rw e
 
-  links_on : (p : ℕ) → visited.is ≡ At (record { from = 0; to = p })
+  pub links_on : (p : ℕ) → visited.is ≡ At (record { from = 0; to = p })
       → renamed_links s ws out at n (length ls) to
       ≡ record { is = At (record { from = 0; to = (end_links s visited.ws visited.out at n (length ls) to p).is }); ws = visited.ws; out = (end_links s visited.ws visited.out at n (length ls) to p).out }
   unfolding renamed_links on_step
@@ -60,10 +60,10 @@ module _ (s : List ℕ) (n : ℕ) (few : n ≤ 65536) (ws out : List ℕ) (to : 
   LinksAre (some q) x = Wrote s n ws out 0 to (link_bytes s n few q) q.1 x
 
   -- on no wire that is not looked at for the links at `at` hangs a tree that is left
-  abbrev None : Type 0
+  abbrev pub None : Type 0
   None = (v : ℕ) → v < n → (Seen s visited.ws at n v → ⊥) → hung visited.ws v ≡ 0
 
-  links_out : (b : Bool) (v : List (Tree × Tree) × Hung) → Keys v.1.trees → Low n v.1.trees → length ls + length (sorted v.1.trees) ≤ 65535 → None
+  pub links_out : (b : Bool) (v : List (Tree × Tree) × Hung) → Keys v.1.trees → Low n v.1.trees → length ls + length (sorted v.1.trees) ≤ 65535 → None
       → LinksOut s n few ws out (on to 2) (length ls) (cut b v) visited → LinksAre (cut b v) (renamed_links s ws out at n (length ls) to)
   unfolding cut
   links_out true v keys below fewer nothing g = links_deep g
@@ -89,13 +89,13 @@ module _ (s : List ℕ) (n : ℕ) (few : n ≤ 65536) (ws out : List ℕ) (to : 
 
 module _ (s : List ℕ) (m : TreeNet) (at p : ℕ) (k : NetLies s m at p) (ws out : List ℕ) (to : ℕ) (low : to ≤ most) (ls : List (Tree × Tree)) (h : Hung)
     (kept : KeptFrom s m.wires k.few ws 0 ls) (meant : Meant s m.wires ws h) (bytes : Bytes s) (mine : Only (Mine s bytes at) ws) where
-  abbrev n : ℕ
+  abbrev pub n : ℕ
   n = m.wires
 
-  abbrev frees : Penned Stepped
+  abbrev pub frees : Penned Stepped
   frees = code.trees (code.tree s 64) (length m.free) ws (store to (front m) out) (at + 8) (on to 8)
 
-  renamed_as : renamed s ws out at p n (length ls) to
+  pub renamed_as : renamed s ws out at p n (length ls) to
       ≡ on_step frees.is (λ pen. renamed_links s frees.ws frees.out p n (length ls) pen.to) (record { is = Deep; ws = frees.ws; out = frees.out })
   unfolding renamed
   renamed_as =
@@ -108,10 +108,10 @@ module _ (s : List ℕ) (m : TreeNet) (at p : ℕ) (k : NetLies s m at p) (ws ou
       rw (a, k.count, b)
 
   -- the net's first bytes
-  abbrev begun : Penned Stepped
+  abbrev pub begun : Penned Stepped
   begun = record { is = At (record { from = at + 8; to = on to 8 }); ws = ws; out = store to (front m) out }
 
-  begun_wrote : Wrote s n ws out (at + 8) to (front m) h begun
+  pub begun_wrote : Wrote s n ws out (at + 8) to (front m) h begun
   begun_wrote = record {
     is = ap (λ j. At (record { from = at + 8; to = on to j })) (sym k.eight);
     meant = meant;
@@ -120,10 +120,10 @@ module _ (s : List ℕ) (m : TreeNet) (at p : ℕ) (k : NetLies s m at p) (ws ou
   }
 
   -- where the free trees end
-  abbrev free_end : ℕ
+  abbrev pub free_end : ℕ
   free_end = at + 8 + length (write_trees (trees m.free))
 
-  frees_out : Outcomes s n ws (store to (front m) out) free_end (on to 8) (length m.free) (walk_all (walk 64) (trees m.free) h) frees
+  pub frees_out : Outcomes s n ws (store to (front m) out) free_end (on to 8) (length m.free) (walk_all (walk 64) (trees m.free) h) frees
   frees_out =
       let e : length (listed (trees m.free)) ≡ length m.free = ap length (listed_trees m.free) in
       rw e at (trees_walk s n (code.tree s 64) (walk 64) (tree_walks s n k.few 64) (trees m.free) h ws (store to (front m) out) (at + 8) (on to 8) k.frees meant (on_most to low 8))
@@ -138,17 +138,17 @@ module _ (s : List ℕ) (m : TreeNet) (at p : ℕ) (k : NetLies s m at p) (ws ou
   RenamedIs (refuse r) x = x.is ≡ Deep
   RenamedIs (ok y) x = Whole y x
 
-  step_deep : (go : ℕ → Penned Stepped) → frees.is ≡ Deep → (on_step frees.is (λ pen. go pen.to) (record { is = Deep; ws = frees.ws; out = frees.out })).is ≡ Deep
+  pub step_deep : (go : ℕ → Penned Stepped) → frees.is ≡ Deep → (on_step frees.is (λ pen. go pen.to) (record { is = Deep; ws = frees.ws; out = frees.out })).is ≡ Deep
   unfolding on_step
   step_deep go e = rw e
 
-  step_on : (go : ℕ → Penned Stepped) (e q : ℕ) → frees.is ≡ At (record { from = e; to = q })
+  pub step_on : (go : ℕ → Penned Stepped) (e q : ℕ) → frees.is ≡ At (record { from = e; to = q })
       → on_step frees.is (λ pen. go pen.to) (record { is = Deep; ws = frees.ws; out = frees.out }) ≡ go q
   unfolding on_step
   step_on go e q h = rw h
 
   -- the links behind the free trees
-  links_whole : (u : Trees × Hung) (b : Bool) (v : List (Tree × Tree) × Hung) (x : Penned Stepped) → length (listed u.0) ≡ length m.free
+  pub links_whole : (u : Trees × Hung) (b : Bool) (v : List (Tree × Tree) × Hung) (x : Penned Stepped) → length (listed u.0) ≡ length m.free
       → Wrote s n ws (store to (front m) out) free_end (on to 8) (write_trees u.0) u.1 frees
       → LinksAre s n k.few frees.ws frees.out (on (on to 8) (length (write_trees u.0))) (on_most (on to 8) (on_most to low 8) (length (write_trees u.0))) ls p (cut b v) x
       → RenamedIs (on_links m (listed u.0) (cut b v)) x
@@ -168,23 +168,3 @@ module _ (s : List ℕ) (m : TreeNet) (at p : ℕ) (k : NetLies s m at p) (ws ou
         frame = w₂.frame;
         stored = λ room small. w₂.stored (rw bytes room) small ∙ ap (λ bs. store to bs out) bytes;
       }
-
-  nothing_unseen : (q v : ℕ) → v < n → (Seen s (visit_links s (length ls) frees.ws frees.out 0 (on q 2)).ws p n v → ⊥) → hung (visit_links s (length ls) frees.ws frees.out 0 (on q 2)).ws v ≡ 0
-  nothing_unseen q v lv l =
-      let o = visited_only (Mine s bytes at) s (length ls) frees.ws frees.out 0 (on q 2) (frees_only (Mine s bytes at) s (length m.free) ws (store to (front m) out) (at + 8) (on to 8) mine) in
-      none_unseen s bytes at _ n v k.few o lv (rw k.place l)
-
-  pub renamed_is : (a b : Bool) (u : Trees × Hung) (v : List (Tree × Tree) × Hung) → walk_all (walk 64) (trees m.free) h ≡ cut a u → walk_links 64 ls u.1 ≡ cut b v
-      → Keys v.1.trees → Low n v.1.trees → length ls + length (sorted v.1.trees) ≤ 65535
-      → RenamedIs (on_free m ls (cut a u)) (renamed s ws out at p n (length ls) to)
-  unfolding cut on_free
-  renamed_is true b u v ea eb keys below fewer =
-      rw renamed_as (step_deep (λ q. renamed_links s frees.ws frees.out p n (length ls) q) (rw ea at frees_out))
-  renamed_is false b u v ea eb keys below fewer =
-      let o = rw ea at frees_out in
-      let w = o.0 in
-      let q = on (on to 8) (length (write_trees u.0)) in
-      let lq = on_most (on to 8) (on_most to low 8) (length (write_trees u.0)) in
-      let x = renamed_links s frees.ws frees.out p n (length ls) q in
-      let g = links_are s n k.few frees.ws frees.out q lq ls p u.1 b v (kept_frame s n k.few ws frees.ws 0 ls w.frame kept) w.meant eb keys below fewer (nothing_unseen q) in
-      rw (renamed_as, step_on (λ j. renamed_links s frees.ws frees.out p n (length ls) j) free_end q w.is, eb) (links_whole u b v x o.1 w g)

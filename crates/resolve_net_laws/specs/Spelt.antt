@@ -33,99 +33,99 @@ use Rattle.resolve_pass_laws.specs.Room.{LinksLie}
 use Rattle.resolve_net_laws.specs.Copied.{Holds}
 use Rattle.resolve_pass_laws.specs.Linking.{links_long}
 use Rattle.resolve_net_laws.specs.Lies.{front, upto, NetLies}
-use Rattle.resolve_net_laws.specs.Net.{end, NetOut, left_nodes, net_resolves}
+use Rattle.resolve_net_laws.specs.Net.{end, NetOut, left_nodes}
 
-spelt_holds : (s : List ℕ) (at : ℕ) (bs r : List ℕ) → Spelt s at bs r → Holds s at bs
+pub spelt_holds : (s : List ℕ) (at : ℕ) (bs r : List ℕ) → Spelt s at bs r → Holds s at bs
 spelt_holds s at bs r h = rw h.bytes (take-append_seam bs r)
 
 -- the same bytes, parted otherwise
-spelt_as : (s : List ℕ) (at : ℕ) (xs r ys q : List ℕ) → Spelt s at xs r → xs ++ r ≡ ys ++ q → Spelt s at ys q
+pub spelt_as : (s : List ℕ) (at : ℕ) (xs r ys q : List ℕ) → Spelt s at xs r → xs ++ r ≡ ys ++ q → Spelt s at ys q
 spelt_as s at xs r ys q h e = record { inside = h.inside; bytes = h.bytes ∙ e }
 
 module _ (s : List ℕ) (paths names : ℕ) (hp : paths ≤ 65536) (hn : names ≤ 65536) (m : TreeNet) (fits : TreeNetFits paths names m) (at : ℕ) (r : List ℕ)
     (spelt : Spelt s at (write_tree_net m) r) where
-  abbrev n : ℕ
+  abbrev pub n : ℕ
   n = m.wires
 
-  abbrev head : List ℕ
+  abbrev pub head : List ℕ
   head = write_head m.name m.included n
 
-  abbrev one : List ℕ
+  abbrev pub one : List ℕ
   one = be 1 (length m.free)
 
-  abbrev fs : List ℕ
+  abbrev pub fs : List ℕ
   fs = concat_map write_tree m.free
 
-  abbrev two : List ℕ
+  abbrev pub two : List ℕ
   two = be 2 (length m.links)
 
-  abbrev lks : List ℕ
+  abbrev pub lks : List ℕ
   lks = concat_map write_link m.links
 
-  head_long : length head ≡ 7
+  pub head_long : length head ≡ 7
   unfolding write_head
   head_long =
       let a = length-append (be 2 m.name ++ be 1 (bit m.included)) (be 4 n) in
       let b = length-append (be 2 m.name) (be 1 (bit m.included)) in
       omega (arith, length_be 2 m.name, length_be 1 (bit m.included), length_be 4 n)
 
-  front_long : length (front m) ≡ 8
+  pub front_long : length (front m) ≡ 8
   front_long = omega (arith, length-append head one, head_long, length_be 1 (length m.free))
 
   -- the place of the link count
   abbrev pub at_links : ℕ
   at_links = at + length (upto m)
 
-  upto_long : length (upto m) ≡ 8 + length fs
+  pub upto_long : length (upto m) ≡ 8 + length fs
   upto_long = omega (arith, length-append (front m) fs, front_long)
 
-  whole : write_tree_net m ++ r ≡ head ++ (one ++ (fs ++ (two ++ (lks ++ r))))
+  pub whole : write_tree_net m ++ r ≡ head ++ (one ++ (fs ++ (two ++ (lks ++ r))))
   unfolding write_tree_net counted
   whole =
       append_assoc (head ++ (one ++ fs)) (two ++ lks) r ∙ append_assoc head (one ++ fs) ((two ++ lks) ++ r)
       ∙ ap (λ zs. head ++ zs) (append_assoc one fs ((two ++ lks) ++ r) ∙ ap (λ zs. one ++ (fs ++ zs)) (append_assoc two lks r))
 
-  in_head : Spelt s at head (one ++ (fs ++ (two ++ (lks ++ r))))
+  pub in_head : Spelt s at head (one ++ (fs ++ (two ++ (lks ++ r))))
   in_head = spelt_as s at (write_tree_net m) r head (one ++ (fs ++ (two ++ (lks ++ r)))) spelt whole
 
-  in_count : Spelt s (at + 7) one (fs ++ (two ++ (lks ++ r)))
+  pub in_count : Spelt s (at + 7) one (fs ++ (two ++ (lks ++ r)))
   in_count = rw head_long at (spelt_next s at head one (fs ++ (two ++ (lks ++ r))) in_head)
 
-  in_free : Spelt s (at + 8) fs (two ++ (lks ++ r))
+  pub in_free : Spelt s (at + 8) fs (two ++ (lks ++ r))
   in_free =
       let e : at + 7 + length one ≡ at + 8 = omega (arith, length_be 1 (length m.free)) in
       rw e at (spelt_next s (at + 7) one fs (two ++ (lks ++ r)) in_count)
 
-  in_two : Spelt s at_links two (lks ++ r)
+  pub in_two : Spelt s at_links two (lks ++ r)
   in_two =
       let e : at + 8 + length fs ≡ at_links = omega (arith, upto_long) in
       rw e at (spelt_next s (at + 8) fs two (lks ++ r) in_free)
 
-  in_links : Spelt s (at_links + 2) lks r
+  pub in_links : Spelt s (at_links + 2) lks r
   in_links =
       let e : at_links + length two ≡ at_links + 2 = omega (arith, length_be 2 (length m.links)) in
       rw e at (spelt_next s at_links two lks r in_two)
 
-  in_upto : Spelt s at (upto m) (two ++ (lks ++ r))
+  pub in_upto : Spelt s at (upto m) (two ++ (lks ++ r))
   in_upto = spelt_as s at head (one ++ (fs ++ (two ++ (lks ++ r)))) (upto m) (two ++ (lks ++ r)) in_head
       (sym (append_assoc (head ++ one) fs (two ++ (lks ++ r)) ∙ append_assoc head one (fs ++ (two ++ (lks ++ r)))))
 
-  in_front : Spelt s at (front m) (fs ++ (two ++ (lks ++ r)))
+  pub in_front : Spelt s at (front m) (fs ++ (two ++ (lks ++ r)))
   in_front = spelt_as s at head (one ++ (fs ++ (two ++ (lks ++ r)))) (front m) (fs ++ (two ++ (lks ++ r))) in_head (sym (append_assoc head one (fs ++ (two ++ (lks ++ r)))))
 
   -- ---- the trees
 
-  in_range : (ts : List Tree) → Each (TreeFits paths names n 64) ts → InRanges paths names n (trees ts)
+  pub in_range : (ts : List Tree) → Each (TreeFits paths names n 64) ts → InRanges paths names n (trees ts)
   unfolding InRange
   in_range [] f = tt
   in_range (t ∷ ts) f = (((fits_depth paths names n 64 t).0 f.0).1, in_range ts f.1)
 
-  frees_lie : LieAll s n (trees m.free) (at + 8)
+  pub frees_lie : LieAll s n (trees m.free) (at + 8)
   frees_lie =
       let e : fs ≡ write_trees (trees m.free) = sym (trees_written (trees m.free) ∙ ap (concat_map write_tree) (listed_trees m.free)) in
       spelt_lie_all s paths names n hp hn fits.wires (trees m.free) (at + 8) (two ++ (lks ++ r)) (in_range m.free fits.free) (rw e at in_free)
 
-  links_lie : (ls : List (Tree × Tree)) (a : ℕ) → Each (LinkFits paths names n) ls → Spelt s a (concat_map write_link ls) r → LinksLie s n ls a
+  pub links_lie : (ls : List (Tree × Tree)) (a : ℕ) → Each (LinkFits paths names n) ls → Spelt s a (concat_map write_link ls) r → LinksLie s n ls a
   unfolding LinksLie write_link
   links_lie [] a f h = tt
   links_lie (l ∷ ls) a f h =
@@ -140,7 +140,7 @@ module _ (s : List ℕ) (paths names : ℕ) (hp : paths ≤ 65536) (hn : names �
         links_lie ls (a + length x + length y) f.1 h₃,
       )
 
-  links_at_lem : links_at s at ≡ at_links
+  pub links_at_lem : links_at s at ≡ at_links
   unfolding links_at
   links_at_lem =
       let few = fits.few_free in
@@ -153,7 +153,7 @@ module _ (s : List ℕ) (paths names : ℕ) (hp : paths ≤ 65536) (hn : names �
       let b : byte s (at + 7) ≡ length (listed (trees m.free)) = sym c ∙ sym l in
       rw b (g ∙ omega (arith, upto_long))
 
-  wires_are : wires_at s at ≡ n
+  pub wires_are : wires_at s at ≡ n
   unfolding wires_at write_head
   wires_are =
       let hd = be 2 m.name ++ be 1 (bit m.included) in
@@ -203,22 +203,22 @@ mutual
   none_deep (more t ts) d l = ap {B = Bool} (λ (b : Bool). elim b [ true ↦ true | false ↦ deeper_any d ts ]) (not_deep t d (omega arith)) ∙ none_deep ts d (omega arith)
 
 module _ (paths names wires : ℕ) where
-  fit_shallow : (t : Tree) → TreeFits paths names wires 64 t → Shallow t
+  pub fit_shallow : (t : Tree) → TreeFits paths names wires 64 t → Shallow t
   fit_shallow t f = not_deep t 64 ((fits_depth paths names wires 64 t).0 f).0
 
-  frees_shallow : (ts : List Tree) → Each (TreeFits paths names wires 64) ts → Frees ts
+  pub frees_shallow : (ts : List Tree) → Each (TreeFits paths names wires 64) ts → Frees ts
   unfolding Frees
   frees_shallow [] f = tt
   frees_shallow (t ∷ ts) f = (fit_shallow t f.0, frees_shallow ts f.1)
 
-  links_fit : (ls : List (Tree × Tree)) → Each (LinkFits paths names wires) ls → Links Shallow ls
+  pub links_fit : (ls : List (Tree × Tree)) → Each (LinkFits paths names wires) ls → Links Shallow ls
   unfolding Links
   links_fit [] f = tt
   links_fit (l ∷ ls) f = (fit_shallow l.0 f.0.0, fit_shallow l.1 f.0.1, links_fit ls f.1)
 
 -- ---- the net, as the definition resolves it
 
-links_long_lem : (s : List ℕ) (n : ℕ) (few : n ≤ 65536) (ls : List (Tree × Tree)) → links_long s n few ls ≡ length (concat_map write_link ls)
+pub links_long_lem : (s : List ℕ) (n : ℕ) (few : n ≤ 65536) (ls : List (Tree × Tree)) → links_long s n few ls ≡ length (concat_map write_link ls)
 unfolding write_link
 links_long_lem s n few [] = refl
 links_long_lem s n few (l ∷ ls) =
@@ -228,7 +228,7 @@ links_long_lem s n few (l ∷ ls) =
 
 module _ (s : List ℕ) (paths names : ℕ) (hp : paths ≤ 65536) (hn : names ≤ 65536) (m : TreeNet) (fits : TreeNetFits paths names m) (at : ℕ) (r : List ℕ)
     (spelt : Spelt s at (write_tree_net m) r) (small : length s ≤ 4294967299) (ws : List ℕ) (room : 262144 ≤ length ws) (b : Bytes s) (empty : Empty ws) where
-  abbrev lies : NetLies s m at (at + length (upto m))
+  abbrev pub lies : NetLies s m at (at + length (upto m))
   lies = spelt_net s paths names hp hn m fits at r spelt
 
   -- it ends where its bytes do
@@ -251,8 +251,3 @@ module _ (s : List ℕ) (paths names : ℕ) (hp : paths ≤ 65536) (hn : names �
         length-append hd one,
         length_be 2 (length m.links),
       )
-
-  pub net_is : (out : List ℕ) (to : ℕ) (low : to ≤ most) → NetOut s m at (at + length (upto m)) lies small ws room b empty out to low (resolve_tree m) (net s ws out at to)
-  net_is out to low =
-      rw (resolve_is m (frees_shallow paths names m.wires m.free fits.free) (links_fit paths names m.wires m.links fits.links) (left_nodes s m at (at + length (upto m)) lies small ws room b empty))
-      (net_resolves s m at (at + length (upto m)) lies small ws room b empty out to low)

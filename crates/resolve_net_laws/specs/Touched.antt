@@ -33,14 +33,14 @@ abbrev pub Marked : List ℕ → ℕ → Type 0
 Marked bs w = (row_mark 0 bs w ≡ 0 → ⊥) × (block_mark 0 bs w ≡ 0 → ⊥)
 
 -- on wire w hangs a tree, and there is room for its marks
-abbrev Hangs : List ℕ → List ℕ → ℕ → Type 0
+abbrev pub Hangs : List ℕ → List ℕ → ℕ → Type 0
 Hangs ws bs w = (w < 65536) × (2112 ≤ length bs) × (hung ws w ≡ 0 → ⊥)
 
-marked_stays : (bs : List ℕ) (v w : ℕ) → Marked bs w → Marked (marked 0 bs v) w
+pub marked_stays : (bs : List ℕ) (v w : ℕ) → Marked bs w → Marked (marked 0 bs v) w
 unfolding row_mark block_mark
 marked_stays bs v w m = (λ z. m.0 (Laws.marks_stay 0 bs v _ z), λ z. m.1 (Laws.marks_stay 0 bs v _ z))
 
-marked_there : (bs : List ℕ) (w : ℕ) → w < 65536 → 2112 ≤ length bs → Marked (marked 0 bs w) w
+pub marked_there : (bs : List ℕ) (w : ℕ) → w < 65536 → 2112 ≤ length bs → Marked (marked 0 bs w) w
 marked_there bs w low room =
     let a = row_set 0 bs w low room in
     let b = block_set 0 bs w low room in
@@ -53,69 +53,69 @@ Seen s ws links n v = (v < left_below s ws links n) × Marked (marks_of s ws lin
 -- ---- the wires of links
 
 module _ (s : List ℕ) where
-  free_zero : (ws : List ℕ) (at i : ℕ) → get_or ws i 0 ≡ 0 → get_or (free_tree ws s at) i 0 ≡ 0
+  pub free_zero : (ws : List ℕ) (at i : ℕ) → get_or ws i 0 ≡ 0 → get_or (free_tree ws s at) i 0 ≡ 0
   unfolding free_tree freed
   free_zero ws at i z = eq_split _ _ _ _ (λ (x : List ℕ). get_or x i 0 ≡ 0) (λ e. zero_stays (set ws _ 0) i _ (zero_stays ws i _ z)) (λ e. z)
 
-  frees_zero : (k : ℕ) (ws : List ℕ) (at i : ℕ) → get_or ws i 0 ≡ 0 → get_or (free_links ws s at k) i 0 ≡ 0
+  pub frees_zero : (k : ℕ) (ws : List ℕ) (at i : ℕ) → get_or ws i 0 ≡ 0 → get_or (free_links ws s at k) i 0 ≡ 0
   unfolding free_links
   frees_zero zero ws at i z = z
   frees_zero (suc k) ws at i z = frees_zero k _ _ i (free_zero (free_tree ws s at) (tree_end s at) i (free_zero ws at i z))
 
-  free_long : (ws : List ℕ) (at : ℕ) → length (free_tree ws s at) ≡ length ws
+  pub free_long : (ws : List ℕ) (at : ℕ) → length (free_tree ws s at) ≡ length ws
   unfolding free_tree
   free_long ws at = eq_split _ _ _ _ (λ (x : List ℕ). length x ≡ length ws) (λ e. length_freed ws _) (λ e. refl)
 
-  frees_long : (k : ℕ) (ws : List ℕ) (at : ℕ) → length (free_links ws s at k) ≡ length ws
+  pub frees_long : (k : ℕ) (ws : List ℕ) (at : ℕ) → length (free_links ws s at k) ≡ length ws
   unfolding free_links
   frees_long zero ws at = refl
   frees_long (suc k) ws at = frees_long k _ _ ∙ free_long (free_tree ws s at) (tree_end s at) ∙ free_long ws at
 
-  free_there : (ws : List ℕ) (at : ℕ) → byte s at ≡ 0 → (get_or (free_tree ws s at) (wire_at s at) 0 ≡ 0) × (hung (free_tree ws s at) (wire_at s at) ≡ 0)
+  pub free_there : (ws : List ℕ) (at : ℕ) → byte s at ≡ 0 → (get_or (free_tree ws s at) (wire_at s at) 0 ≡ 0) × (hung (free_tree ws s at) (wire_at s at) ≡ 0)
   unfolding free_tree freed
   free_there ws at e =
       let w = wire_at s at in
       rw (← eq_yes _ _ (freed ws w) ws e refl) (zero_stays (set ws w 0) w (65536 + w) (zero_there ws w), zero_there (set ws w 0) (65536 + w))
 
-  over_up : (ws : List ℕ) (w t : ℕ) → t ≤ over ws w t
+  pub over_up : (ws : List ℕ) (w t : ℕ) → t ≤ over ws w t
   unfolding over
   over_up ws w t = eq_split _ _ _ _ (λ (x : ℕ). t ≤ x) (λ z. omega arith) (λ n. lt_split _ _ _ _ (λ (x : ℕ). t ≤ x) (λ h. omega arith) (λ h. omega arith))
 
-  over_there : (ws : List ℕ) (w t : ℕ) → (hung ws w ≡ 0 → ⊥) → w < over ws w t
+  pub over_there : (ws : List ℕ) (w t : ℕ) → (hung ws w ≡ 0 → ⊥) → w < over ws w t
   unfolding over
   over_there ws w t n = eq_split _ _ _ _ (λ (x : ℕ). w < x) (λ z. absurd (n z)) (λ m. lt_split _ _ _ _ (λ (x : ℕ). w < x) (λ h. h) (λ h. omega arith))
 
-  hung_up : (ws : List ℕ) (at t : ℕ) → t ≤ hung_tree ws s at t
+  pub hung_up : (ws : List ℕ) (at t : ℕ) → t ≤ hung_tree ws s at t
   unfolding hung_tree
   hung_up ws at t = eq_split _ _ _ _ (λ (x : ℕ). t ≤ x) (λ z. over_up ws _ t) (λ n. omega arith)
 
-  hung_all_up : (k : ℕ) (ws : List ℕ) (at t : ℕ) → t ≤ hung_links ws s at k t
+  pub hung_all_up : (k : ℕ) (ws : List ℕ) (at t : ℕ) → t ≤ hung_links ws s at k t
   unfolding hung_links
   hung_all_up zero ws at t = omega arith
   hung_all_up (suc k) ws at t =
       let b = tree_end s at in
       omega (arith, hung_up ws at t, hung_up ws b (hung_tree ws s at t), hung_all_up k ws (tree_end s b) (hung_tree ws s b (hung_tree ws s at t)))
 
-  hung_there : (ws : List ℕ) (at t : ℕ) → byte s at ≡ 0 → (hung ws (wire_at s at) ≡ 0 → ⊥) → wire_at s at < hung_tree ws s at t
+  pub hung_there : (ws : List ℕ) (at t : ℕ) → byte s at ≡ 0 → (hung ws (wire_at s at) ≡ 0 → ⊥) → wire_at s at < hung_tree ws s at t
   unfolding hung_tree
   hung_there ws at t e n = eq_split _ _ _ _ (λ (x : ℕ). wire_at s at < x) (λ z. over_there ws (wire_at s at) t n) (λ d. absurd (d e))
 
-  mark_stays : (ws bs : List ℕ) (at w : ℕ) → Marked bs w → Marked (mark_tree ws s at bs) w
+  pub mark_stays : (ws bs : List ℕ) (at w : ℕ) → Marked bs w → Marked (mark_tree ws s at bs) w
   unfolding mark_tree mark_wire
   mark_stays ws bs at w m =
       eq_split _ _ _ _ (λ (x : List ℕ). Marked x w) (λ e. eq_split _ _ _ _ (λ (x : List ℕ). Marked x w) (λ z. m) (λ z. marked_stays bs _ w m)) (λ e. m)
 
-  marks_stay : (k : ℕ) (ws bs : List ℕ) (at w : ℕ) → Marked bs w → Marked (marked_links ws s at k bs) w
+  pub marks_stay : (k : ℕ) (ws bs : List ℕ) (at w : ℕ) → Marked bs w → Marked (marked_links ws s at k bs) w
   unfolding marked_links
   marks_stay zero ws bs at w m = m
   marks_stay (suc k) ws bs at w m = marks_stay k ws _ _ w (mark_stays ws (mark_tree ws s at bs) (tree_end s at) w (mark_stays ws bs at w m))
 
-  mark_long : (ws bs : List ℕ) (at : ℕ) → length (mark_tree ws s at bs) ≡ length bs
+  pub mark_long : (ws bs : List ℕ) (at : ℕ) → length (mark_tree ws s at bs) ≡ length bs
   unfolding mark_tree mark_wire
   mark_long ws bs at =
       eq_split _ _ _ _ (λ (x : List ℕ). length x ≡ length bs) (λ e. eq_split _ _ _ _ (λ (x : List ℕ). length x ≡ length bs) (λ z. refl) (λ z. length_marked 0 bs _)) (λ e. refl)
 
-  mark_there : (ws bs : List ℕ) (at : ℕ) → byte s at ≡ 0 → Hangs ws bs (wire_at s at) → Marked (mark_tree ws s at bs) (wire_at s at)
+  pub mark_there : (ws bs : List ℕ) (at : ℕ) → byte s at ≡ 0 → Hangs ws bs (wire_at s at) → Marked (mark_tree ws s at bs) (wire_at s at)
   unfolding mark_tree mark_wire
   mark_there ws bs at e h =
       let w = wire_at s at in
@@ -127,7 +127,7 @@ module _ (s : List ℕ) where
     pub under : (ws : List ℕ) (t : ℕ) → (hung ws w ≡ 0 → ⊥) → w < hung_links ws s at k t
     pub found : (ws bs : List ℕ) → Hangs ws bs w → Marked (marked_links ws s at k bs) w
 
-  of_left : (at k : ℕ) → byte s at ≡ 0 → OfLinks at (suc k) (wire_at s at)
+  pub of_left : (at k : ℕ) → byte s at ≡ 0 → OfLinks at (suc k) (wire_at s at)
   unfolding free_links hung_links marked_links
   of_left at k e =
       let w = wire_at s at in
@@ -140,7 +140,7 @@ module _ (s : List ℕ) where
         found = λ ws bs h. marks_stay k ws _ _ w (mark_stays ws (mark_tree ws s at bs) b w (mark_there ws bs at e h));
       }
 
-  of_right : (at k : ℕ) → byte s (tree_end s at) ≡ 0 → OfLinks at (suc k) (wire_at s (tree_end s at))
+  pub of_right : (at k : ℕ) → byte s (tree_end s at) ≡ 0 → OfLinks at (suc k) (wire_at s (tree_end s at))
   unfolding free_links hung_links marked_links
   of_right at k e =
       let b = tree_end s at in
@@ -151,7 +151,7 @@ module _ (s : List ℕ) where
         found = λ ws bs h. marks_stay k ws _ _ w (mark_there ws (mark_tree ws s at bs) b e (h.0, rw (mark_long ws bs at) h.1, h.2));
       }
 
-  of_later : (at k w : ℕ) → OfLinks (tree_end s (tree_end s at)) k w → OfLinks at (suc k) w
+  pub of_later : (at k w : ℕ) → OfLinks (tree_end s (tree_end s at)) k w → OfLinks at (suc k) w
   unfolding free_links hung_links marked_links
   of_later at k w h = record {
     gone = λ ws. h.gone _;
@@ -160,17 +160,12 @@ module _ (s : List ℕ) where
   }
 
   module _ (bytes : Bytes s) where
-    covers_more : (P Q : ℕ → Type 0) → ((w : ℕ) → P w → Q w) → (k at : ℕ) → Covers P s bytes at k → Covers Q s bytes at k
+    pub covers_more : (P Q : ℕ → Type 0) → ((w : ℕ) → P w → Q w) → (k at : ℕ) → Covers P s bytes at k → Covers Q s bytes at k
     unfolding Covers
     covers_more P Q f zero at c = tt
     covers_more P Q f (suc k) at c = (λ e. f _ (c.0 e), λ e. f _ (c.1 e), covers_more P Q f k _ c.2)
 
-    covered : (k at : ℕ) → Covers (OfLinks at k) s bytes at k
-    unfolding Covers
-    covered zero at = tt
-    covered (suc k) at = (of_left at k, of_right at k, covers_more _ _ (λ w. of_later at k w) k _ (covered k (tree_end s (tree_end s at))))
-
-  links_freed : (k at : ℕ) (ws : List ℕ) → Only (OfLinks at k) ws → Empty (free_links ws s at k)
+  pub links_freed : (k at : ℕ) (ws : List ℕ) → Only (OfLinks at k) ws → Empty (free_links ws s at k)
   links_freed k at ws o = record {
     room = rw (frees_long k ws at) o.room;
     zeros = λ i h. elim (dec_lt i 65536) [
@@ -193,28 +188,11 @@ module _ (s : List ℕ) (bytes : Bytes s) (at : ℕ) where
   abbrev pub Mine : ℕ → Type 0
   Mine w = OfLinks s (within s (links_at s at + 2)) (be16 s (links_at s at)) w
 
-  pub prepared_only : (ws : List ℕ) → Empty ws → Only Mine (prepare s ws at).ws
-  unfolding prepare pass_links
-  prepared_only ws e =
-      let c = covered s bytes (be16 s (links_at s at)) (within s (links_at s at + 2)) in
-      passed_only Mine s bytes _ _ _ _ c (links_only Mine s bytes _ _ _ c (only_empty Mine ws e))
-
   -- a wire on which a tree hangs is looked at
-  seen : (ws : List ℕ) (n v : ℕ) → n ≤ 65536 → Only Mine ws → v < n → (hung ws v ≡ 0 → ⊥) → Seen s ws (links_at s at) n v
+  pub seen : (ws : List ℕ) (n v : ℕ) → n ≤ 65536 → Only Mine ws → v < n → (hung ws v ≡ 0 → ⊥) → Seen s ws (links_at s at) n v
   unfolding left_below marks_of
   seen ws n v few o h d =
       let m = o.trees v (omega arith) d in
       let f = m.under ws 0 d in
       let r = length-replicate {A = ℕ} 2112 0 in
       (lt_split _ _ _ _ (λ (x : ℕ). v < x) (λ i. h) (λ i. lt_split _ _ _ _ (λ (x : ℕ). v < x) (λ j. f) (λ j. h)), m.found ws (replicate 2112 0) (omega arith, omega arith, d))
-
-  pub none_unseen : (ws : List ℕ) (n v : ℕ) → n ≤ 65536 → Only Mine ws → v < n → (Seen s ws (links_at s at) n v → ⊥) → hung ws v ≡ 0
-  none_unseen ws n v few o h l = elim (ℕ_discrete (hung ws v) 0) [ yes z ↦ z | no d ↦ absurd (l (seen ws n v few o h d)) ]
-
-  -- nothing is left in the tables
-  pub net_frees : (ws out : List ℕ) (to : ℕ) → Empty ws → Empty (net s ws out at to).ws
-  unfolding net Net.freed resolved prepare pass_links
-  net_frees ws out to e =
-      let o = prepared_only ws e in
-      links_freed s (be16 s (links_at s at)) (within s (links_at s at + 2)) _
-      (eq_split _ _ _ _ (λ (x : Penned Stepped). Only Mine x.ws) (λ z. o) (λ z. renamed_only Mine s _ _ at _ _ _ to o))

@@ -29,9 +29,10 @@ use Rattle.spelt_trees.specs.Spelt.{Spelt, spelt_next}
 use Rattle.wire_tables_laws.specs.Table.{Empty}
 use Rattle.resolve_net_laws.specs.Lies.{upto}
 use Rattle.resolve_net_laws.specs.Only.{trees_keep}
-use Rattle.resolve_net_laws.specs.Touched.{net_frees}
+use Rattle.resolve_net_laws.proofs.Touched.{net_frees}
 use Rattle.resolve_net_laws.specs.Net.{end, NetIs, NetOut}
-use Rattle.resolve_net_laws.specs.Spelt.{spelt_net, net_end_lem, net_is}
+use Rattle.resolve_net_laws.specs.Spelt.{spelt_net, net_end_lem}
+use Rattle.resolve_net_laws.proofs.Spelt.{net_is}
 
 -- the bytes of these nets stand from `to` on where there is room, and the file is gone on from e
 pub record Nets (ws out : List ℕ) (e to : ℕ) (ys : List TreeNet) (x : Penned Stepped) : Type 0 where

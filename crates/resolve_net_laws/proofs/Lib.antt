@@ -1,0 +1,4 @@
+pub mod Net
+pub mod Renamed
+pub mod Spelt
+pub mod Touched
