@@ -32,9 +32,7 @@ use Rattle.commute_means.specs.Across.{N, cols, J, column_came, side}
 
 module _ (Named : ℕ → Name → Type 0) (x : ℕ → ℕ) (small : (k : ℕ) → x k ≤ 4294900000) (M : ℕ) (chain : List ℕ) (default : ℕ → ℕ) (l : List ℕ) (F Z : Port → Type 0)
     (b m c : ℕ) (low_b : b < 4096) (few_m : m ≤ 15) (few_c : c ≤ 15) (grid : List (List ℕ)) (rows : Rows (λ k. get_or chain k (default k)) grid m) where
-
   module _ (y : Node) (name : ℕ) (aux : Numbers.Port) (size_is : next m ≡ length y.ports) (below : y.net < M) (named : Named name y.name) (most : length y.ports ≤ 16) where
-
     -- copies of a for n aux ports of b from the j-th on
     pub copy_across_came : (n j : ℕ) → j + n ≤ c → (g : Graph) (ws : List ℕ) (e : Engine) (U : Port → Type 0) → Stage Named x M chain l (m + j) g ws e
         → Safe F g U (concat_map (column b m c (N Named x small M chain default l F Z b m c low_b few_m few_c grid rows) (cols Named x small M chain default l F Z b m c low_b few_m few_c grid rows) y) (from j n)) Z

@@ -45,7 +45,6 @@ module _ (Named : ℕ → Name → Type 0) (x : ℕ → ℕ) (small : (k : ℕ) 
     (a b m c : ℕ) (low_a : a < 4096) (low_b : b < 4096) (few_m : m ≤ 15) (few_c : c ≤ 15)
     (y z : Node) (name_a name_b : ℕ) (aux_a : Numbers.Port) (size_y : next m ≡ length y.ports) (size_z : next c ≡ length z.ports) (below_y : y.net < M) (below_z : z.net < M)
     (named_y : Named name_a y.name) (named_z : Named name_b z.name) (most_y : length y.ports ≤ 16) (most_z : length z.ports ≤ 16) where
-
   -- copies of b for n aux ports of a from the i-th on, then the copies of a
   copy_both_came : (n i : ℕ) → i + n ≡ m → (grid : List (List ℕ)) → Rows (N Named x small M chain default l F Z a b m c low_a low_b few_m few_c y z name_a name_b aux_a size_y size_z below_y below_z named_y named_z most_y most_z) grid i → (g : Graph) (ws : List ℕ) (e : Engine) (U : Port → Type 0) → Stage Named x M chain l i g ws e
       → Safe F g U (concat_map (hung (P Named x small M chain default l F Z a b m c low_a low_b few_m few_c y z name_a name_b aux_a size_y size_z below_y below_z named_y named_z most_y most_z) (N Named x small M chain default l F Z a b m c low_a low_b few_m few_c y z name_a name_b aux_a size_y size_z below_y below_z named_y named_z most_y most_z) z) (from i n) ++ (columns Named x small M chain default l F Z a b m c low_a low_b few_m few_c y z name_a name_b aux_a size_y size_z below_y below_z named_y named_z most_y most_z)) Z
@@ -82,9 +81,7 @@ module _ (Named : ℕ → Name → Type 0) (x : ℕ → ℕ) (small : (k : ℕ) 
       go (refuse c) d ih = rw d refl
 
 module _ (Named : ℕ → Name → Type 0) (x : ℕ → ℕ) (small : (k : ℕ) → x k ≤ 4294900000) (ws : List ℕ) (e : Engine) (t : Between Named x ws e) where
-
   module _ (a b : ℕ) (met : across (graph_of e) (port a 0) ≡ some (port b 0)) where
-
     -- commute does on the words what its script does; the copies' net is the pair's
     pub commute_means : (net : ℕ) → net ≡ (at (graph_of e) a).net + 1 → Tries Named ws e (commute ws net a b) (commute_script (fresh e) (graph_of e) a b)
     unfolding commute side_of commute_script hang fresh edit apply new

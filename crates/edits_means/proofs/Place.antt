@@ -71,7 +71,6 @@ module _ (Named : ℕ → Name → Type 0) (ws : List ℕ) (e : Engine) (m : Mea
 module _ (Named : ℕ → Name → Type 0) (ws : List ℕ) (e : Engine) (m : Means Named ws e) (n : ℕ) (x : Node) (name : ℕ)
     (all : length e.slots.chain + count is_some (graph_of e) ≡ e.pools.nodes) (is : n ≡ fresh e 0) (can : 0 < length e.slots.chain → CanPlace Named e n x name)
     (mark : 0 < length e.slots.chain → CanInsert e n x) where
-
   -- a node that a rule makes starts dirty
   pub insert_node_means : Agrees Named n (insert_node ws (x.net + 1) name (length x.ports)) (edit (Insert n x) e)
   unfolding edit add_node

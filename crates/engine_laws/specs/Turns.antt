@@ -42,7 +42,6 @@ act_counts s x e h = go (ltb e.steps max_steps) (each edit s.edits e) (edits_fra
     go false r k = omega arith
 
 module _ (x : Outline) where
-
   pub await_counts : (m n : ℕ) (e : Engine) → frame e ≡ x → Counts x (await_net m n e)
   unfolding await_net
   await_counts m n e h = go (ltb (waits e) e.pools.waits)

@@ -30,11 +30,9 @@ use Rattle.finish_laws.specs.Twice.{count_map, count_same, count_either, all_in,
 -- ---- the places of a net
 
 module _ (path k : ℕ) (g : Graph) (w : WellWired g) (h : Home) (node : FreeNode path g k h) (ids : List ℕ) (nodes : NodesOf g k ids) where
-
   -- ---- well wired
 
   module _ (t : FlatNet) (d : Drawn g ids h.free t) where
-
     -- a wire occurs at its two ports and at no other
     twice : (p : Port) → (Placed path k g w h node ids nodes) p → occurs (d.wire p) (places t) ≡ 2
     unfolding occurs

@@ -26,7 +26,6 @@ use Rattle.flat_nets_laws.specs.Clean.{Clean, links_emptied, net_topped, linked_
 -- ---- links stay below the word behind the table
 
 module _ (s : List ℕ) (bytes : Bytes s) where
-
   pub passed_clean : (ws : List ℕ) → Clean ws → (at : ℕ) → Clean (passed s ws at)
   unfolding passed
   passed_clean ws c at = links_emptied (linked s ws at) ((linked_topped s bytes) ws c at)

@@ -38,7 +38,6 @@ use Rattle.flat_nets_laws.specs.Nets.{Counted, Fits, flat_bytes, nets_from, firs
 -- ---- measured
 
 module _ (s : List ℕ) (bytes : Bytes s) where
-
   -- how long they are, where all fit
   pub all_to : (k : ℕ) (ws : List ℕ) → Clean ws → (t : Total) → t.to ≤ far → table_end (tree_net_end s) t.at k ≤ length s → Each Counted ((nets_from s bytes) t.at k) → Each Fits ((nets_from s bytes) t.at k)
       → (summed_all s ws t k).to ≡ min far (t.to + length (flat_bytes ((nets_from s bytes) t.at k)))

@@ -25,7 +25,6 @@ use Rattle.fuel_laws.proofs.Measure.{turn_less}
 use Rattle.fuel_laws.specs.Lasts.{next_last, fuel_of, answered, Running, lasts_after, taken_running}
 
 module _ (P : Condition) (sound : Sound P) where
-
   lasts_by : (f : ℕ) (n : Option ℕ) (e : Engine) → (Running P sound) e → fuel_of e < suc f
       → ((n' : Option ℕ) (e' : Engine) → (Running P sound) e' → fuel_of e' < f → Lasts (run f n' e'))
       → (o : Option (List ℕ × ℕ)) → next n e ≡ o → Lasts (run_by f n e o)

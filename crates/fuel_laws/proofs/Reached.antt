@@ -29,7 +29,6 @@ use Rattle.fuel_laws.proofs.Lasts.{fuel_lasts}
 use Rattle.fuel_laws.specs.Reached.{Reached, reached_running}
 
 module _ (P : Condition) (sound : Sound P) (p : Pools) (fits : pools_fit p ≡ true) (f : File FlatNet) (begins : (e : Engine) → load p f ≡ ok e → Of P e) where
-
   -- `fuel` lasts
   pub reached_lasts : {e : Engine} (n : Option ℕ) → Reached p f e → Lasts (run fuel n e)
   reached_lasts {e} n r = fuel_lasts P sound n e ((reached_running P sound p fits f begins) r)

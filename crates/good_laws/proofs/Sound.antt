@@ -34,9 +34,7 @@ use Rattle.good_laws.specs.Turned.{named_below}
 use Rattle.good_laws.specs.Sound.{Condition, visiting, Sound, of_same, Kept, Fine, k}
 
 module _ (P : Condition) where
-
   module _ (sound : Sound P) where
-
     -- the visit has ended
     pub leave_fine : (n k : ℕ) (e : Engine) → (at (graph_of e) n).net ≡ k → (r : Result Visited) → (Fine P) (visiting e n) e r
         → Visits ((Kept P) rest) (λ e'. Good rest e' × (body e' ≡ body e) × Idle e') (r >>= λ v. ok (leave k v))

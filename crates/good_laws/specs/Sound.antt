@@ -27,9 +27,7 @@ use Rattle.good_laws.specs.Owners.{owners, net_of}
 use Rattle.good_laws.specs.Good.{Good, bump, rest}
 use Rattle.good_laws.specs.Marks.{fewer_good}
 use Rattle.good_laws.specs.Removed.{tighten_good}
-
 use Rattle.good_laws.specs.Idle.{Idle, rises_idle, tighten_rises}
-
 use Rattle.good_laws.specs.Scripts.{Orderly, Done, Visits, act_good, await_good}
 use Rattle.good_laws.specs.Turned.{named_below}
 

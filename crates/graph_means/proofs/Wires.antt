@@ -28,7 +28,6 @@ use Rattle.graph_means.specs.Marks.{CanMark, mark_dirty_means}
 use Rattle.graph_means.specs.Wires.{number_same, number_node, cut_means, CanLink, a', b', real_a', real_b', index, wired_words, open_graph, wired_means, closed, opened}
 
 module _ (Named : ℕ → Name → Type 0) (ws : List ℕ) (e : Engine) (m : Means Named ws e) (a b : Port) (c : CanLink e a b) where
-
   -- both ends' nodes become dirty
   open_means : (a' Named ws e m a b c) ≢ b → ends (graph_of e) a b ≡ some ((a' Named ws e m a b c), (b' Named ws e m a b c)) → join (graph_of e) a b ≡ (open_graph Named ws e m a b c)
       → Means Named (Words.join (Words.remove_wire ws (number a) (number b)) (number (a' Named ws e m a b c)) (number (b' Named ws e m a b c))) (link a b e)

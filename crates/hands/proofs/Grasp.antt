@@ -13,7 +13,6 @@ use Rattle.hands.specs.Grasp.{Grasped, root, own'', other'', joined}
 
 module _ {A : Type 0} {v w : View A} {m : ℕ} {x : ℕ → List A} {h : ℕ} {y : List A} {z total : ℕ} (t rest : ℕ) (p : Held v m x h y z total) (few : m ≤ 256) (i : t < m)
     (some : v.head t ≢ 0) (k : Grasped v w m t h) (sum : total ≡ length (x t) + rest) where
-
   -- net t's chain is in hand, in front
   pub grasped : Held w m (put x t []) (v.head t) (x t ++ y) z rest
   grasped = record {

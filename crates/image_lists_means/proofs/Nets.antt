@@ -38,9 +38,7 @@ use Rattle.image_lists_means.specs.Nets.{under_more, under_less, pool, below, fe
 
 module _ (Named : ℕ → Name → Type 0) (ws : List ℕ) (e : Engine) (m : Means Named ws e) (good : Good rest e)
     (firsts : (k : ℕ) → k < length e.nets → nth (net_at e k).list.items 0 ≡ some (net_at e k).home.free) where
-
   module _ (k : ℕ) (marks : List ℕ) (h : k < length e.nets) (g : (Stage Named ws e m good firsts) k marks) where
-
     through : Listed Named ws e m k ((below Named ws e m good firsts) k) g.count g.marked.has ((pool Named ws e m good firsts).places k) 0 (walk Named ws e m good firsts k marks h g)
     unfolding walk
     through =

@@ -31,7 +31,6 @@ use Rattle.image_lists_means.specs.Pools.{then_yes, marks, free_entries, free_se
 
 module _ (Named : ℕ → Name → Type 0) (ws : List ℕ) (e : Engine) (m : Means Named ws e) (good : Good rest e)
     (firsts : (k : ℕ) → k < length e.nets → nth (net_at e k).list.items 0 ≡ some (net_at e k).home.free) where
-
   stage : Stage Named ws e m good firsts (length e.nets) (marks Named ws e m good firsts)
   stage = (all_lists Named ws e m good firsts).1
 

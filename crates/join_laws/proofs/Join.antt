@@ -21,7 +21,6 @@ join_other g a b r m n m' n' = join_cases (λ h. across h r ≡ across g r) g a 
     (λ _ _. across_wire_other (wire (cut g a b) (follow g a) (some (follow g b))) (follow g b) (some (follow g a)) r n' ∙ across_wire_other (cut g a b) (follow g a) (some (follow g b)) r m' ∙ cut_other g a b r m n)
 
 module _ (g : Graph) (w : Wired g) (a b : Port) (ra : Real g a) (rb : Real g b) (a≢b : a ≢ b) where
-
   -- a link of two ports of one net keeps the wiring, and turns its two arguments and no other port
   pub join_wired : (at g a.node).net ≡ (at g b.node).net → Wired (join g a b) × Turned g (join g a b) a b
   join_wired one = join_cases (λ h. Wired h × Turned g h a b) g a b

@@ -10,13 +10,10 @@ use Rattle.join_laws.specs.Link.{Wired, cut_other, cut_second, cut_first, End, f
 
 -- a wiring, and two ports that exist
 module _ (g : Graph) (w : Wired g) where
-
   module _ (a b : Port) (ra : Real g a) (rb : Real g b) (a≢b : a ≢ b) where
-
     -- ---- the ends a' and b' are wired: a and b are not wired together
 
     module _ (a' b' : Port) (ea : End g a a') (eb : End g b b') (open' : a' ≢ b) where
-
       pub link_back : (p q : Port) → across (linked g w a b ra rb a≢b a' b' ea eb open') p ≡ some q → across (linked g w a b ra rb a≢b a' b' ea eb open') q ≡ some p
       link_back p q e = go (port_discrete p b') (port_discrete p a')
         where

@@ -27,7 +27,6 @@ use Rattle.lists_means.specs.Append.{Link, Appended, appended, chained, pointer_
 use Rattle.lists_means.specs.Push.{Taken, take_entry_means, last_below, pushed, put_means}
 
 module _ (Named : ℕ → Name → Type 0) (ws : List ℕ) (e : Engine) (m : Means Named ws e) (k n : ℕ) (h : k < length e.nets) where
-
   -- node n at the end of net k's list
   pub push_node_means : entries e < e.pools.entries → (net_at e k).list.capacity < 2147483648
       → ((push_node ws (k + 1) n).is ≡ true) × Means Named (push_node ws (k + 1) n).ws (over_net (λ t. with_list (push n t.list) t) k e)

@@ -44,7 +44,6 @@ use Rattle.load_laws.proofs.Loaded.{net_loaded}
 use Rattle.load_laws.specs.Begin.{Writable, Begun, NetGood, net_begun, keep_in, each_mem, unnamed, T_true, not_false, names_none, net_good, empty_begun, spells}
 
 module _ (path : ℕ) (Q : Name → ℕ → Type 0) (rules : List Rule) (name : Name) (named : name.path ≡ path) where
-
   nets_begun : (ts us : List FlatNet) (e : Engine) → ((t : FlatNet) → Memᴰ t ts → NetGood Q name t) → Begun path Q rules us (core_of e)
       → Then (λ e'. Begun path Q rules (us ++ ts) (core_of e')) (each (add_flat_net name) ts e)
   nets_begun [] us e h b = subst (λ (vs : List FlatNet). Begun path Q rules vs (core_of e)) (sym (append-nil us)) b
@@ -60,7 +59,6 @@ module _ (path : ℕ) (Q : Name → ℕ → Type 0) (rules : List Rule) (name : 
           (k e' ((net_begun path Q rules name named) us t (core_of e) (core_of e') (h t (mathlib.Core.List.Memᴰ.head refl)) b x.0 x.1))
 
 module _ (bs : List ℕ) (b : Bytes bs) (f : File FlatNet) (h : read flat bs ≡ ok f) (p : Pools) (e : Engine) (q : load p f ≡ ok e) where
-
   -- what the load of an accepted file leaves: each net has as many free ports as the file gives it free wires, each node can be written
   pub load_begun : Begun (free_name f.paths).path (Writable (length (with_free_path f.paths)) (length f.names)) f.rules (included f) (core_of e)
   unfolding load included

@@ -39,7 +39,6 @@ use Rattle.load_laws.specs.Loaded.{Loaded, NetFine, Added, nth_snoc, core_wider,
 module _ (path : ℕ) (name : Name) (named : name.path ≡ path) where
   -- the nets after one more, on the graph
   module _ (g : Graph) (homes : List Home) (r : Rest path homes g) (N : ℕ → ℕ) (fr : Fresh g N) (t : FlatNet) (fine : NetFine t) where
-
     old_frame : (n : ℕ) → filled g n ≡ true → frame (h path name named g homes r N fr t fine) n ≡ frame g n
     unfolding h apply_script
     old_frame n f =

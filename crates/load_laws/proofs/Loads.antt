@@ -33,7 +33,6 @@ use Rattle.load_laws.proofs.Net.{nodes_safe}
 use Rattle.load_laws.specs.Loads.{f, B, F, ends₀, g₂, loaded, joined_all, arity₁, size₀, off_b, end_is, end_real, end_net, end_off, most, count_kept, g₃, same₃, other₂, free_later, used_new}
 
 module _ (g : Graph) (w : WellWired g) (N : ℕ → ℕ) (fr : Fresh g N) (k : ℕ) (name : Name) (t : FlatNet) (ordered : pairs_ordered t.pairs ≡ true) (wired : flat_wired t ≡ true) where
-
   free_safe : Safe (F g w N fr k name t ordered wired) (g₂ g w N fr k name t ordered wired) (UsedBy (B g w N fr k name t ordered wired) []) (join_met [] (ends₀ g w N fr k name t ordered wired)) (UsedBy (B g w N fr k name t ordered wired) (ends₀ g w N fr k name t ordered wired))
   free_safe =
       subst (λ (l : List End). Safe (F g w N fr k name t ordered wired) (g₂ g w N fr k name t ordered wired) (UsedBy (B g w N fr k name t ordered wired) []) (join_met [] (ends₀ g w N fr k name t ordered wired)) (UsedBy (B g w N fr k name t ordered wired) l)) (append-nil (ends₀ g w N fr k name t ordered wired))

@@ -26,7 +26,6 @@ use Rattle.load_laws.specs.Ends.{ends_length, ends_mem, ends_at_lem, ends_apart,
 use Rattle.load_laws.specs.Net.{NodesFit, g₁, g₂, meets_fit, next_fit, node_later, some_port}
 
 module _ (t : FlatNet) (N : ℕ → ℕ) (apart : (i j : ℕ) → N i ≡ N j → i ≡ j) (k : ℕ) (B : Port → Type 0) (F : Port → Type 0) where
-
   pub nodes_safe : (xs : List FlatNode) (met : List End) (j : ℕ) (g : Graph) → (NodesFit t N apart k B F) g met j xs → Safe F g (UsedBy B met) (load_nodes N t k met j xs) (UsedBy B (met_after t N met j xs))
   unfolding load_nodes apply
   nodes_safe [] met j g f = λ r. (λ u. u, λ u. u)

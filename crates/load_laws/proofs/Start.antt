@@ -34,7 +34,6 @@ use Rattle.load_laws.specs.Start.{join_holes, h, rest, two, Base, All, h_is}
 -- ---- the free node
 
 module _ (g : Graph) (w : WellWired g) (N : ℕ → ℕ) (fr : Fresh g N) (k : ℕ) (name : Name) (t : FlatNet) (ordered : pairs_ordered t.pairs ≡ true) (wired : flat_wired t ≡ true) where
-
   -- after the free node and its own wire
   started : Wired (two g w N fr k name t ordered wired) × Turns g (two g w N fr k name t ordered wired) (Base g w N fr k name t ordered wired)
   unfolding load_net apply

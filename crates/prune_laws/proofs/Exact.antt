@@ -13,7 +13,6 @@ use Rattle.prune_laws.specs.Few.{few_below, join_distinct}
 use Rattle.prune_laws.specs.Exact.{apart_join, apart_none, reached_in, reach_closed, reach_keeps, reach_sound, entries_in, entries_only}
 
 module _ (f : File FlatNet) (n : ℕ) (small : (i j : ℕ) → In j (next f i) → j < n) where
-
   -- pruning keeps exactly what is reached
   pub reach_exact : (es : List ℕ) → ((i : ℕ) → In i es → i < n) → (i : ℕ) → In i (reach n f (join [] es)) ↔ Reached f es i
   reach_exact es h i = (

@@ -8,7 +8,6 @@ use Rattle.net_file_laws.specs.Bytes.{Bytes}
 use Rattle.net_file_laws.proofs.RoundTrip.{flat_write_read}
 use Rattle.conversions.specs.Prune.{Reached, join, reach, keep_nets, prune}
 use Rattle.prune_laws.specs.Members.{In, tested}
-
 use Rattle.prune_laws.specs.Below.{next_below}
 use Rattle.prune_laws.specs.Accepts.{keep_none, keep_yes, keep_not}
 

@@ -36,7 +36,6 @@ use Rattle.reached_laws.specs.Calls.{slice_calls, SumFits}
 use Rattle.reached_laws.specs.Accepted.{fuel_lasts}
 
 module _ (bs : List ℕ) (bytes : Bytes bs) (f : File FlatNet) (accepted : read flat bs ≡ ok f) (p : Pools) (fits : pools_fit p ≡ true) where
-
   -- slice calls one after another, whose numbers add up to at most 16,777,216 or to none, answer and leave what one call of their sum does
   pub slice_calls_compose : (w : Workspace) (h : Held) (ns : List ℕ) → resume w p ≡ ok h → Reached p f h.engine → all limit_fits ns ≡ true → SumFits (total (map limit_of ns))
       → slice_calls w p ns ≡ ((slice w p (limit_number (total (map limit_of ns)))).0, after w (slice w p (limit_number (total (map limit_of ns)))).1)

@@ -28,7 +28,6 @@ use Rattle.removal_means.specs.Went.{more_stale, settle, went_means}
 use Rattle.removal_means.specs.Remove.{CanRemove, net_is, clean_means, v2, list_is, here2, inside2, m2, late, mark_is}
 
 module _ (Named : ℕ → Name → Type 0) (ws : List ℕ) (e : Engine) (m : Means Named ws e) (n k : ℕ) (c : CanRemove e n k) where
-
   dirty_means : is_dirty e n ≡ true → Means Named (Edits.went (Edits.went_dirty (Edits.vacate ws n) (k + 1)) (k + 1)) (settle k (went_dirty k (vacated k n e)))
   dirty_means d =
       subst (λ (x : Engine). Means Named (Edits.went (Edits.went_dirty (Edits.vacate ws n) (k + 1)) (k + 1)) (settle k x)) (late Named ws e m n k c)

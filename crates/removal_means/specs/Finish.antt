@@ -13,7 +13,6 @@ use Rattle.good_laws.specs.Removed.{remove_good, remove_owners, AllThere}
 use Rattle.means.specs.Means.{Means}
 use Rattle.means.specs.Frame.{rest_set}
 use Rattle.script_means.specs.Dead.{OutDead, Dead, dead_keep, dead_none, means_dead}
-
 use Rattle.removal_means.specs.Room.{can_remove}
 use Rattle.removal_means.specs.Kept.{Kept, remove_kept}
 

@@ -28,7 +28,6 @@ use Rattle.repeats_laws.specs.Exact.{Holds, not_true, more_held, z, empty}
 module _ (s : List ℕ) (item : Item) where
   -- one item, told apart from those seen or not
   module _ (l : List ℕ) (m at : ℕ) (seen : List ℕ → Bool) (g : Holds s item l m at seen) where
-
     seen_found : (p : ℕ) → Found s l m at (z s item l m at seen g) p → seen (item_at s item at) ≡ true
     seen_found p f = rw (item_same s item at (get_or l f.place 0) f.alike) (g.kept f.place f.inside)
 

@@ -27,9 +27,7 @@ use Rattle.repeats_laws.specs.Numbers.{alike_part, alike_join, be16_alike, be64_
 use Rattle.repeats_laws.specs.Names.{name_end_lem, Parts, parts, bytes}
 
 module _ (s : List ℕ) where
-
   module _ (small : (i : ℕ) → get_or s i 0 < 256) where
-
     -- two names are the same where their bytes are
     pub name_same : (a b : ℕ) → eqs (item_at s Named a) (item_at s Named b) ≡ same_name (name_at s a) (name_at s b)
     unfolding same_name name_at

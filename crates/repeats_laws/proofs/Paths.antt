@@ -22,7 +22,6 @@ use Rattle.repeats_laws.proofs.Exact.{differ_exact}
 use Rattle.repeats_laws.specs.Paths.{distinct_table, alike_rest, path_end_lem, path_size}
 
 module _ (s : List ℕ) where
-
   path_same : (a b : ℕ) → eqs (item_at s Path a) (item_at s Path b) ≡ eqs (path_at s a) (path_at s b)
   unfolding path_at
   path_same a b = same_test _ _

@@ -21,7 +21,6 @@ use Rattle.repeats.specs.declared.Item.TheVariants.{Name as Named}
 use Rattle.repeats.specs.Repeats.{size_of, differ}
 use Rattle.repeats_laws.specs.Runs.{Alike, none, more, alike_at}
 use Rattle.repeats_laws.specs.Items.{item_at, item_end, items, item_same, item_alike}
-
 use Rattle.repeats_laws.specs.Paths.{distinct_table}
 use Rattle.repeats_laws.specs.Numbers.{alike_part, alike_join, be16_alike, be64_alike, numbers_alike, length_numbers, alike_be16, alike_be64, alike_numbers}
 

@@ -12,7 +12,6 @@ use Rattle.resolve_laws.specs.Kept.{IsNode, Nodes, nodes_remove, nodes_get, cano
 use Rattle.resolve_laws.specs.Fuel.{walk_node, cut_node, node_cut, none_cut, both_cut, led_step}
 
 module _ (n : ℕ) (ih : (d : ℕ) (t : Tree) (s : Hung) → Nodes s.trees → length s.trees < n → walk d t s ≡ limited d (visit n t s)) where
-
   mutual
     unfolding lead visit_by walk_all below
 

@@ -11,7 +11,6 @@ use Rattle.conversions.specs.Resolve.{Hung, canonicalize, wire_links, meet, pass
 use Rattle.list_laws.specs.Lists.{all_append}
 use Rattle.resolve_laws.specs.Walk.{then, walk_all, walk, cut, limited_all}
 use Rattle.resolve_laws.specs.Kept.{Hang, Nodes, nodes_remove, nodes_get, canonical_trees, IsNode, Keeps, all_keeps}
-
 use Rattle.resolve_laws.specs.Pass.{pass_one, pass_more, pass_none, met_by, meet_is}
 use Rattle.resolve_laws.specs.Links.{visits_all, walk_links, or, deep_link, deep_links, links_keep}
 

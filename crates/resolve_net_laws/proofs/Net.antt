@@ -56,7 +56,6 @@ use Rattle.resolve_net_laws.specs.Net.{sorted_length, n, end, done, came, long, 
 -- ---- both passes
 
 module _ (s : List ℕ) (m : TreeNet) (at p : ℕ) (k : NetLies s m at p) (small : length s ≤ 4294967299) (ws : List ℕ) (room : 262144 ≤ length ws) (bytes : Bytes s) (empty : Empty ws) where
-
   -- the tables speak of the wires of links only
   mine : Only (Mine s bytes at) (done s m at p k small ws room bytes empty).ws
   mine = subst (λ (x : Left Ready). Only (Mine s bytes at) x.ws) (prepare_is s m at p k small ws room bytes empty) (prepared_only s bytes at ws empty)
@@ -64,7 +63,6 @@ module _ (s : List ℕ) (m : TreeNet) (at p : ℕ) (k : NetLies s m at p) (small
   -- ---- the net
 
   module _ (out : List ℕ) (to : ℕ) (low : to ≤ most) where
-
     onward_out : (y : Result TreeNet) → RenamedIs s m at p k (done s m at p k small ws room bytes empty).ws out to low (ls s m at p k small ws room bytes empty out to low) (h s m at p k small ws room bytes empty out to low) (came s m at p k small ws room bytes empty).from (came s m at p k small ws room bytes empty).passing.meant bytes mine y (visited s m at p k small ws room bytes empty out to low)
         → (NetOut s m at p k small ws room bytes empty out to low) y (record { is = onward (visited s m at p k small ws room bytes empty out to low).is (end s m at p k small ws room bytes empty); ws = freed s (visited s m at p k small ws room bytes empty out to low).ws p; out = (visited s m at p k small ws room bytes empty out to low).out })
     onward_out (refuse r) g = (onward_deep s m at p k small ws room bytes empty out to low) (visited s m at p k small ws room bytes empty out to low).is g

@@ -44,7 +44,6 @@ use Rattle.resolve_net_laws.specs.Renamed.{links_are, n, frees, renamed_as, free
 
 module _ (s : List ℕ) (m : TreeNet) (at p : ℕ) (k : NetLies s m at p) (ws out : List ℕ) (to : ℕ) (low : to ≤ most) (ls : List (Tree × Tree)) (h : Hung)
     (kept : KeptFrom s m.wires k.few ws 0 ls) (meant : Meant s m.wires ws h) (bytes : Bytes s) (mine : Only (Mine s bytes at) ws) where
-
   nothing_unseen : (q v : ℕ) → v < (n s m at p k ws out to low ls h kept meant bytes mine) → (Seen s (visit_links s (length ls) (frees s m at p k ws out to low ls h kept meant bytes mine).ws (frees s m at p k ws out to low ls h kept meant bytes mine).out 0 (on q 2)).ws p (n s m at p k ws out to low ls h kept meant bytes mine) v → ⊥) → hung (visit_links s (length ls) (frees s m at p k ws out to low ls h kept meant bytes mine).ws (frees s m at p k ws out to low ls h kept meant bytes mine).out 0 (on q 2)).ws v ≡ 0
   nothing_unseen q v lv l =
       let o = visited_only (Mine s bytes at) s (length ls) (frees s m at p k ws out to low ls h kept meant bytes mine).ws (frees s m at p k ws out to low ls h kept meant bytes mine).out 0 (on q 2) (frees_only (Mine s bytes at) s (length m.free) ws (store to (front m) out) (at + 8) (on to 8) mine) in

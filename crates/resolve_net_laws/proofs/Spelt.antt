@@ -39,7 +39,6 @@ use Rattle.resolve_net_laws.specs.Spelt.{frees_shallow, links_fit, lies}
 
 module _ (s : List ℕ) (paths names : ℕ) (hp : paths ≤ 65536) (hn : names ≤ 65536) (m : TreeNet) (fits : TreeNetFits paths names m) (at : ℕ) (r : List ℕ)
     (spelt : Spelt s at (write_tree_net m) r) (small : length s ≤ 4294967299) (ws : List ℕ) (room : 262144 ≤ length ws) (b : Bytes s) (empty : Empty ws) where
-
   pub net_is : (out : List ℕ) (to : ℕ) (low : to ≤ most) → NetOut s m at (at + length (upto m)) (lies s paths names hp hn m fits at r spelt small ws room b empty) small ws room b empty out to low (resolve_tree m) (net s ws out at to)
   net_is out to low =
       rw (resolve_is m (frees_shallow paths names m.wires m.free fits.free) (links_fit paths names m.wires m.links fits.links) (left_nodes s m at (at + length (upto m)) (lies s paths names hp hn m fits at r spelt small ws room b empty) small ws room b empty))

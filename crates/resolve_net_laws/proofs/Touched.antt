@@ -29,9 +29,7 @@ use Rattle.resolve_net_laws.specs.Touched.{Seen, OfLinks, of_left, of_right, of_
 -- ---- the wires of links
 
 module _ (s : List ℕ) where
-
   module _ (bytes : Bytes s) where
-
     covered : (k at : ℕ) → Covers ((OfLinks s) at k) s bytes at k
     unfolding Covers
     covered zero at = tt
@@ -40,7 +38,6 @@ module _ (s : List ℕ) where
 -- ---- a net
 
 module _ (s : List ℕ) (bytes : Bytes s) (at : ℕ) where
-
   pub prepared_only : (ws : List ℕ) → Empty ws → Only (Mine s bytes at) (prepare s ws at).ws
   unfolding prepare pass_links
   prepared_only ws e =

@@ -18,10 +18,8 @@ use Rattle.rule_laws.specs.Columns.{column, Columns, Numbers, ColumnsFit, After,
 
 -- the copies y of a, and all of this, are in net k
 module _ (F : Port → Type 0) (b k m c : ℕ) (rows cols : ℕ → ℕ) (y : Node) where
-
   module _ (numbers : Numbers b m c rows cols) (holes : Holes y) (net_y : y.net ≡ k) (size_y : length y.ports ≡ 1 + m)
       (later : (i j : ℕ) → i < length y.ports → j < c → F (port (cols j) i)) where
-
     pub columns_safe : (n l : ℕ) (g : Graph) (U : Port → Type 0) → l + n ≡ c → (ColumnsFit F b k m c rows cols y) g U l → Safe F g U (concat_map (column b m c rows cols y) (from l n)) (Or U (Columns b m c rows cols l))
     columns_safe zero l g U e f = λ r. (left, λ x. elim x [ left u ↦ u | right z ↦ (let p = z.low in let q = z.high in absurd (omega arith)) ])
     columns_safe (suc n) l g U e f =

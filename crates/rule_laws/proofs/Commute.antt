@@ -32,7 +32,6 @@ use Rattle.rule_laws.specs.Commute.{t, m, c, x, y, cols, P, Q, Cuts, Rows, Ends,
 -- ---- the script
 
 module _ (fresh : ℕ → ℕ) (g : Graph) (w : WellWired g) (f : Fresh g fresh) (a b : ℕ) (met : across g (port a 0) ≡ some (port b 0)) where
-
   cols_fit : Safe (Ends fresh g w f a b met) (g₂ fresh g w f a b met) (Rows fresh g w f a b met) (concat_map (column b (m fresh g w f a b met) (c fresh g w f a b met) fresh (cols fresh g w f a b met) (y fresh g w f a b met)) (up_to (c fresh g w f a b met))) (Ends fresh g w f a b met)
   cols_fit = columns_safe (Ends fresh g w f a b met) b (at g a).net (m fresh g w f a b met) (c fresh g w f a b met) fresh (cols fresh g w f a b met) (y fresh g w f a b met) (numbers fresh g w f a b met) (new_holes (at g a).net (name_of g a) (arity g a)) (net_y fresh g w f a b met) (let z = (t fresh g w f a b met).ports_a in omega (arith, (size_y fresh g w f a b met))) (col_later fresh g w f a b met) (c fresh g w f a b met) 0 (g₂ fresh g w f a b met) (Rows fresh g w f a b met) (omega arith) (record {
     vacant = λ j _ _. filled_same g (g₂ fresh g w f a b met) ((cols fresh g w f a b met) j) ((col₂ fresh g w f a b met) j) ∙ f.vacant ((m fresh g w f a b met) + j);

@@ -35,7 +35,6 @@ module _ (s : List ℕ) (is : Bytes s) (f : File FlatNet) (e : read flat s ≡ o
   -- ---- one rule more
 
   module _ (n at : ℕ) (sets : List ℕ) (more : n < length f.rules) (there : at ≡ within s (rule_place s n)) (b : Built s f n sets) where
-
     adds : Adds n (λ p k. listed (collected k (rule_of f n)) p) (placed s is f e n at sets more there b) (add_rule (placed s is f e n at sets more there b) n (bit_of n) (rule_of f n))
     unfolding placed
     adds =

@@ -19,7 +19,6 @@ use Rattle.script_laws.specs.Tidy.{WellWired, Tidy, across_past, hole, real_fill
 -- ---- the law
 
 module _ (g : Graph) (s : Script) (Z : Port → Type 0) (w : WellWired g) (t : Tidy g s Z) where
-
   made : Wired (h g s Z w t) × Turns g (h g s Z w t) Z
   made = edits_wired Z s.edits g g (λ _. ⊥) Z w.wired (start g s Z w t) t.safe
 

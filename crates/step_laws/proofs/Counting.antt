@@ -25,7 +25,6 @@ use Rattle.step_laws.specs.Counting.{Marked, Turns, turn_steps, Counted, none_co
 -- `Books` is what the run keeps beside the nodes: it has every marked slot hold a node whose net is not at 0, and every turn keeps it
 module _ (path : ℕ) (Books : Engine → Type 0) (marked : (e : Engine) → Books e → Marked e)
     (kept : (n : Option ℕ) (e : Engine) (p : List ℕ × ℕ) → Books e → next n e ≡ some p → After Books Books (turn p.1 (with_items p.0 e))) where
-
   run_counted : (f : ℕ) (n : Option ℕ) (e e' : Engine) → Ready path (core_of e) → Books e → run f n e ≡ ok e' → (Ran path Books marked kept) e e'
   unfolding run
   run_counted zero n e e' r b h = let z : ◌≡◌ {A = ℕ} 0 1 = cc in absurd (omega arith)

@@ -41,7 +41,6 @@ module _ (Named : ℕ → Name → Type 0) (ws : List ℕ) (e : Engine) (m : Mea
   -- what the words are after a place was taken and put at the end of the waits on net k
   module _ (w0 w : List ℕ) (c p j : ℕ) (t : Taken ws w0 e c) (a : Appended w0 w e.pools.nodes e.pools.entries k c v.node (v.net + 1) p j) (pos : 0 < c)
       (apart : p ≢ c) (is : net_word_words w0 (k + 1) 9 ≡ p) where
-
     put_means : Means Named w (over_net (waited v) k e)
     put_means =
         let e11 = (rests Named ws e m k v h w0 w c p j t a pos apart is).same 11 (omega arith) in
@@ -76,10 +75,8 @@ module _ (Named : ℕ → Name → Type 0) (ws : List ℕ) (e : Engine) (m : Mea
       (pointer_link e.pools.nodes e.pools.entries k p)) pos apart refl)
 
 module _ (Named : ℕ → Name → Type 0) (ws : List ℕ) (e : Engine) (m : Means Named ws e) (k n : ℕ) (h : k < length e.nets) where
-
   module _ (there : filled (graph_of e) n ≡ true) (own : (at (graph_of e) n).net < length e.nets) (small : (net_at e (at (graph_of e) n).net).pending < 4294967295)
       (above : (net_at e k).pending ≢ 0) where
-
     one_more : waits e < e.pools.waits → ((await_net_words ws (k + 1) n).is ≡ Waiting) × Means Named (await_net_words ws (k + 1) n).ws (State.more (at (graph_of e) n).net (over_net (waited (v Named ws e m k n h there own small above)) k e))
     unfolding v waited with_awaiting
     one_more room =

@@ -19,7 +19,6 @@ use Rattle.wire_ends_means.specs.Table.{Table, links, join_wire_met}
 use Rattle.wire_ends_means.specs.Wires.{table_move, Numbers, Fit, more_wires, x, moved, moved_count}
 
 module _ (ps : List (ℕ × ℕ)) (apart : PairsApart ps) (m : ℕ) (w : ℕ) (p : Port) (inside : canonical ps w < m) (low : number p < 2147483648) where
-
   -- one end, and what is done with the others after it
   pub join_more : (ends : List End) (ws wires : List ℕ) (met : List End) → Table ps m wires met → ((v : ℕ) → of_wire v ((x ps apart m w p inside low) ∷ ends ++ met) ≤ 2) → (j : Joined)
       → (Table ps m (join_wire ws wires w (number p)).wires ((x ps apart m w p inside low) ∷ met) → ((v : ℕ) → of_wire v (ends ++ (x ps apart m w p inside low) ∷ met) ≤ 2)

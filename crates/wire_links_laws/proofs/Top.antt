@@ -18,7 +18,6 @@ use Rattle.wire_links_laws.specs.Top.{Topped, far_low, topped_zero, topped_two}
 -- ---- two wires that are linked with each other
 
 module _ (ws : List ℕ) (t : Topped ws) (x y : ℕ) (hx : x < 65536) (hy : y < 65536) where
-
   topped_joined : Topped (join ws x y)
   unfolding join
   topped_joined = eq_split _ _ _ _ Topped (λ e. t) (λ d. (topped_two ws t x y hx hy))

@@ -17,7 +17,6 @@ use Rattle.wiring_laws.specs.Counts.{tell_pair, twice_told, in_one, is_alike, is
 
 module _ (c : List ℕ) (base : ℕ) (ws : List ℕ) (ps : List (ℕ × ℕ)) (once : (w : ℕ) → occurs w (pair_wires ps) ≤ 1)
     (told : (w : ℕ) → get_or c w 0 - base ≡ min 3 (occurs w ws + occurs w (pair_wires ps))) where
-
   -- ---- from the check
 
   module _ (a : all (alike c) ps ≡ true) (t : all (twice c base) ws ≡ true) where

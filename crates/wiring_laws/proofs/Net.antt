@@ -22,9 +22,7 @@ use Rattle.wiring_laws.specs.Net.{pairs_once, tallied, counted}
 -- ---- what the counts are, of lists
 
 module _ (counts : List ℕ) (base : ℕ) (l : Low counts base) (fs ns : List ℕ) (ps : List (ℕ × ℕ)) where
-
   module _ (f : Inside (length counts) fs) (p : Inside (length counts) (pair_wires ps)) (n : Inside (length counts) ns) where
-
     lists_wired : pairs_ordered ps ≡ true
         → (all (alike (tallied counts base l fs ns ps)) ps && all (twice (tallied counts base l fs ns ps) base) fs && all (twice (tallied counts base l fs ns ps) base) ns) ≡ (all (pair_wired (fs ++ ns)) ps && all (wire_wired (fs ++ ns) ps) (fs ++ ns))
     lists_wired o =
@@ -35,7 +33,6 @@ module _ (counts : List ℕ) (base : ℕ) (l : Low counts base) (fs ns : List �
 -- ---- a net where it stands
 
 module _ (s counts : List ℕ) (base at : ℕ) where
-
   module _ (l : Low counts base) (n : FlatNet) (room : n.wires ≤ length counts) where
     -- a net that has these parts
     parts_wired : Wires n → pairs_ordered n.pairs ≡ true → free_wires s at ≡ n.free → net_pairs s at ≡ n.pairs

@@ -30,7 +30,6 @@ use Rattle.wiring_laws.specs.Nets.{split, Ordered, Tells, none_wider}
 
 -- nets that were read one after another: the first, and the others from its end on
 module _ (s : List ℕ) (paths names : ℕ) where
-
   -- each net above the counts of the one before
   nets_tell : (wide : ℕ → ℕ → Bool) (len : ℕ) → (Tells s paths names) wide len → (n i at : ℕ) (counts : List ℕ) (base : ℕ) (ns : List FlatNet) (r : List ℕ)
       → times_from (λ j. read_flat_net paths names) i n (drop at s) ≡ some (ns, r) → at ≤ length s → n ≤ 256 → Low counts base → length counts ≡ len → (Ordered s paths names) ns

@@ -14,7 +14,6 @@ use Rattle.stored.specs.Parts.{stands_net}
 use Rattle.tally.specs.Tally.{tally, seen, Low, Inside, inside_append, inside_more, tally_length, tally_low, tally_append, tally_seen}
 use Rattle.wiring.specs.Wiring.{twice, alike, free_wires, paired_wires, net_pairs, net_nodes, net_tallied, net_wired}
 use Rattle.wiring_laws.specs.Members.{occurs_append, occurs_once}
-
 use Rattle.wiring_laws.specs.Inside.{Wires, net_reads}
 use Rattle.wiring_laws.specs.Places.{node_places, free_are, pairs_are, paired_are, noded_are}
 

@@ -40,14 +40,13 @@ pub loop-k-smaller : goal.loop-k-smaller
 loop-k-smaller c = omega arith
 
 pub loop-k-preserved : goal.loop-k-preserved
-loop-k-preserved c =
-    (
-      differ_more _ _ _ _ _ _ _ _ c.loop-k.invariant.0 c.loop-k-test.true c.item_size-z.ensures _ _ _
-          c.if-s-z.false c.if-s-z-2.false c.search-p.ensures c.known.ensures c.if-known.false
-          c.insert.ensures,
-      omega arith,
-      omega arith,
-    )
+loop-k-preserved c = (
+  differ_more _ _ _ _ _ _ _ _ c.loop-k.invariant.0 c.loop-k-test.true c.item_size-z.ensures _ _ _
+      c.if-s-z.false c.if-s-z-2.false c.search-p.ensures c.known.ensures c.if-known.false
+      c.insert.ensures,
+  omega arith,
+  omega arith,
+)
 
 pub shape_of-sorted : goal.shape_of-sorted
 shape_of-sorted c = omega arith
