@@ -1,0 +1,4 @@
+use Rattle.ivy.proofs.slice.Goals as goal
+
+pub returns : goal.returns
+returns c = c.slice.ensures

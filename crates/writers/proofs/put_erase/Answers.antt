@@ -1,0 +1,7 @@
+use Rattle.std.proofs.Common.{rules}
+use Rattle.net_file.specs.Write.{write_rule}
+use Rattle.writers.proofs.put_erase.Goals as goal
+
+pub returns : goal.returns
+unfolding write_rule
+returns c = search rules
