@@ -1,5 +1,5 @@
 -- An answer as two plain numbers.
-use Rattle.std.specs.Prelude.{ℕ}
+use Rattle.std.specs.Prelude.{ℕ, ◌≡◌}
 use Rattle.lent.specs.declared.Answer.{Answer}
 use Rattle.lent.specs.declared.Answer.TheVariants.{Done, Refused}
 use Rattle.ivy_c.specs.declared.IvyAnswer.{IvyAnswer}
@@ -8,3 +8,11 @@ use Rattle.ivy_c.specs.declared.IvyAnswer.{IvyAnswer}
 unfoldable pub plain : Answer → IvyAnswer
 plain (Done n) = record { refusal = 0; value = n }
 plain (Refused r) = record { refusal = r; value = 0 }
+
+pub plain_done : (a : Answer) (n : ℕ) → a ≡ Done n → record { refusal = 0; value = n } ≡ plain a
+unfolding plain
+plain_done a n e = rw e
+
+pub plain_refused : (a : Answer) (r : ℕ) → a ≡ Refused r → record { refusal = r; value = 0 } ≡ plain a
+unfolding plain
+plain_refused a r e = rw e
