@@ -20,6 +20,7 @@ pub struct IvyAnswer {
     pub value: u32,
 }
 
+#[tactic(auto, unfolding(crate::specs::Plain::plain))]
 fn plain(answer: Answer) -> IvyAnswer
     ensures { result ≡ plain answer }
 {

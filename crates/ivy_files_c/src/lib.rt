@@ -17,6 +17,7 @@ pub struct IvyConverted {
     pub length: u64,
 }
 
+#[tactic(auto, unfolding(crate::specs::Plain::plain))]
 fn plain(answer: Converted) -> IvyConverted
     ensures { result ≡ plain answer }
 {

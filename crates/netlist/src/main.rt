@@ -26,7 +26,7 @@ const LARGEST_RESULT: usize = 24576;
 const LARGEST_TEXT: usize = 131072;
 
 // The text of the result, the first n bytes.
-#[tactic(auto, using(crate::specs::Said::listed_all), unfolding(crate::specs::Said::listed))]
+#[tactic(auto, unfolding(crate::specs::Said::listed))]
 fn listed(res: &[u8], n: usize, text: &mut [u8]) -> Put
     ensures { Written (listed res.now n) 0 text.old text.new result }
 {
@@ -37,7 +37,7 @@ fn listed(res: &[u8], n: usize, text: &mut [u8]) -> Put
 }
 
 // What is printed of an answer.
-#[tactic(auto, using(crate::specs::Said::said_done, crate::specs::Said::said_refused))]
+#[tactic(auto, unfolding(crate::specs::Said::said))]
 fn say(answer: Answer, res: &[u8], text: &mut [u8]) -> Put
     ensures { Written (said answer res.now) 0 text.old text.new result }
 {

@@ -133,8 +133,8 @@ fn counted(tally: Tally, replayed: Replayed) -> Tally
     requires files_bound { tally.files < 100000 }
     requires different_le_files { tally.different ≤ tally.files }
     ensures value { result ≡ after tally replayed }
-    ensures files_bound_2 { result.files ≤ tally.files + 1 }
-    ensures different_le_files_2 { result.different ≤ result.files }
+    ensures at_most_one_more { result.files ≤ tally.files + 1 }
+    ensures still_different_le_files { result.different ≤ result.files }
 {
     let files = tally.files;
     let different = tally.different;
