@@ -1,0 +1,16 @@
+use Rattle.std.proofs.Common.{arith}
+use Rattle.put.specs.Laws.{full_if, refused}
+use Rattle.net_writers.specs.Laws.{size_node, node_parts}
+use Rattle.net_writers.proofs.put_node.Goals as goal
+
+pub returns-then-aux-gt255 : goal.returns-then-aux-gt255
+returns-then-aux-gt255 c = refused (λ h. omega arith)
+
+pub returns-then-children-gt255 : goal.returns-then-children-gt255
+returns-then-children-gt255 c = refused (λ h. omega arith)
+
+pub returns-then-space-named : goal.returns-then-space-named
+returns-then-space-named c = full_if (size_node _ _ _ _ _) (omega arith)
+
+pub returns : goal.returns
+returns c = search node_parts
