@@ -21,7 +21,7 @@ use Rattle.lent.specs.declared.Answer.TheVariants.{Done, Refused}
 use Rattle.slicing.specs.Slicing.{steps_fit, run_held, slice_image, slice}
 use Rattle.slicing.specs.Ways.{held_ran, held_refused, image_runs, image_steps, slice_room}
 use Rattle.run_means.specs.Run.{Most}
-use Rattle.head_kept.specs.Run.{slice_head}
+use Rattle.head_kept.proofs.Run.{slice_head}
 use Rattle.visiting_means.specs.Slice as Visiting
 use Rattle.visiting_means.specs.Slice.{SliceEnds}
 use Rattle.start_means.specs.Start.{pools_of}

@@ -22,7 +22,7 @@ use Rattle.head_kept.specs.Etas.{eta_reduce_first}
 use Rattle.head_kept.specs.Graft.{graft_first}
 
 -- by what a turn leads to
-went_split : {A : Type 0} (g : Went) (f : ℕ → A) (a : A) (h : ℕ → A) (P : A → Type 0) → ((s : ℕ) → P (f s)) → P a → ((r : ℕ) → P (h r)) → P (on_went g f a h)
+pub went_split : {A : Type 0} (g : Went) (f : ℕ → A) (a : A) (h : ℕ → A) (P : A → Type 0) → ((s : ℕ) → P (f s)) → P a → ((r : ℕ) → P (h r)) → P (on_went g f a h)
 unfolding on_went
 went_split (Go s) f a h P x y z = x s
 went_split Rest f a h P x y z = y
@@ -31,22 +31,22 @@ went_split (Refused r) f a h P x y z = z r
 module _ {u : List ℕ} where
   -- ---- interactions
 
-  apply_first : {ws : List ℕ} → First u ws → (tag t a b : ℕ) → First u (apply ws tag t a b).ws
+  pub apply_first : {ws : List ℕ} → First u ws → (tag t a b : ℕ) → First u (apply ws tag t a b).ws
   unfolding apply
   apply_first f tag t a b = eq_split tag 3 _ _ (Leaves u) (λ h. erase_first f t a b) (λ h. commute_first f t a b)
 
-  apply_both_first : {ws : List ℕ} → First u ws → (tag t a b : ℕ) → First u (apply_both ws tag t a b).ws
+  pub apply_both_first : {ws : List ℕ} → First u ws → (tag t a b : ℕ) → First u (apply_both ws tag t a b).ws
   unfolding apply_both
   apply_both_first {ws} f tag t a b =
       let s = apply_first f tag t a b in
       tried_split (apply ws tag t a b).is _ _ _ (Leaves u) (apply_first s tag t b a) s (λ r. s)
 
-  in_order_first : {ws : List ℕ} → First u ws → (file : List ℕ) (at : ℕ) (v : Visited) → First u (in_order ws file at v).ws
+  pub in_order_first : {ws : List ℕ} → First u ws → (file : List ℕ) (at : ℕ) (v : Visited) → First u (in_order ws file at v).ws
   unfolding in_order
   in_order_first f file at v =
       pick_split _ _ _ (Leaves u) (apply_both_first f (byte file at) v.net.0 v.node.0 v.other.0) (apply_both_first f (byte file at) v.net.0 v.other.0 v.node.0)
 
-  pair_first : {ws : List ℕ} → First u ws → (file sets : List ℕ) (r : ℕ) (v : Visited) → First u (pair ws file sets r v).ws
+  pub pair_first : {ws : List ℕ} → First u ws → (file sets : List ℕ) (r : ℕ) (v : Visited) → First u (pair ws file sets r v).ws
   unfolding pair straight
   pair_first {ws} f file sets r v =
       let tag = byte file (rule_at_words sets r) in
@@ -55,7 +55,7 @@ module _ {u : List ℕ} where
       (eq_split v.path v.facing _ _ (Leaves u) (λ h. one) (λ h. pick_split _ _ _ (Leaves u) (in_order_first f file (rule_at_words sets r) v) one))
       (pick_split _ _ _ (Leaves u) (apply_first f tag v.net.0 v.other.0 v.node.0) f)
 
-  interact_first : {ws : List ℕ} → First u ws → (file sets : List ℕ) (r : ℕ) (v : Visited) → First u (interact ws file sets r v).ws
+  pub interact_first : {ws : List ℕ} → First u ws → (file sets : List ℕ) (r : ℕ) (v : Visited) → First u (interact ws file sets r v).ws
   unfolding interact
   interact_first f file sets r v =
       eq_split (byte file (rule_at_words sets r)) 2 _ _ (Leaves u)
@@ -63,7 +63,7 @@ module _ {u : List ℕ} where
 
   -- ---- a visit
 
-  attempt_first : {ws : List ℕ} → First u ws → (file sets : List ℕ) (r : ℕ) (v : Visited) → First u (attempt ws file sets r v).ws
+  pub attempt_first : {ws : List ℕ} → First u ws → (file sets : List ℕ) (r : ℕ) (v : Visited) → First u (attempt ws file sets r v).ws
   unfolding attempt rewrite
   attempt_first f file sets r v =
       let at = rule_at_words sets r in
@@ -71,11 +71,11 @@ module _ {u : List ℕ} where
       (eq_split (byte file at) 1 _ _ (Leaves u) (λ h. graft_first f file (eqb (byte file (at + 3)) 1) v.net.0 v.node.0)
       (λ h. eta_reduce_first f file sets r v.net.0 v.node.0))
 
-  tried_if_first : {ws : List ℕ} → First u ws → (file sets : List ℕ) (rules r : ℕ) (v : Visited) → First u (tried_if ws file sets rules r v).ws
+  pub tried_if_first : {ws : List ℕ} → First u ws → (file sets : List ℕ) (rules r : ℕ) (v : Visited) → First u (tried_if ws file sets rules r v).ws
   unfolding tried_if
   tried_if_first f file sets rules r v = eq_split (rules % 2) 1 _ _ (Leaves u) (λ h. attempt_first f file sets r v) (λ h. f)
 
-  tries_first : (k : ℕ) {ws : List ℕ} → First u ws → (file sets : List ℕ) (v : Visited) (rules r : ℕ) → First u (tries ws file sets v rules r k).ws
+  pub tries_first : (k : ℕ) {ws : List ℕ} → First u ws → (file sets : List ℕ) (v : Visited) (rules r : ℕ) → First u (tries ws file sets v rules r k).ws
   unfolding tries
   tries_first zero f file sets v rules r = f
   tries_first (suc k) {ws} f file sets v rules r =
@@ -83,17 +83,17 @@ module _ {u : List ℕ} where
       eq_split rules 0 _ _ (Leaves u) (λ h. f)
       (λ h. tried_split (tried_if ws file sets rules r v).is _ _ _ (Leaves u) (tries_first k s file sets v (rules / 2) (next r)) s (λ n. s))
 
-  rewrites_first : {ws : List ℕ} → First u ws → (file sets : List ℕ) (t n p : ℕ) → First u (rewrites ws file sets t n p).ws
+  pub rewrites_first : {ws : List ℕ} → First u ws → (file sets : List ℕ) (t n p : ℕ) → First u (rewrites ws file sets t n p).ws
   unfolding rewrites
   rewrites_first f file sets t n p = tries_first 64 f file sets (alone t n p) (set_of sets p 3) 0
 
-  visit_pair_first : {ws : List ℕ} → First u ws → (file sets : List ℕ) (t n m p : ℕ) → First u (visit_pair ws file sets t n m p).ws
+  pub visit_pair_first : {ws : List ℕ} → First u ws → (file sets : List ℕ) (t n m p : ℕ) → First u (visit_pair ws file sets t n m p).ws
   unfolding visit_pair
   visit_pair_first {ws} f file sets t n m p =
       let s = tries_first 64 f file sets (meeting t n p m (path file (name ws m))) (set_of sets p 2) 0 in
       tried_split _ _ _ _ (Leaves u) (rewrites_first s file sets t n p) s (λ r. s)
 
-  visit_first : {ws : List ℕ} → First u ws → (file sets : List ℕ) (t n : ℕ) → First u (visit ws file sets t n).ws
+  pub visit_first : {ws : List ℕ} → First u ws → (file sets : List ℕ) (t n : ℕ) → First u (visit ws file sets t n).ws
   unfolding visit
   visit_first {ws} f file sets t n =
       let a = name ws n in
@@ -103,50 +103,11 @@ module _ {u : List ℕ} where
 
   -- ---- a run
 
-  leave_first : {ws : List ℕ} → First u ws → (t : ℕ) → First u (leave ws t)
+  pub leave_first : {ws : List ℕ} → First u ws → (t : ℕ) → First u (leave ws t)
   unfolding leave
   leave_first f t = finish_edit_net_first (fewer_first f t) t
 
   -- the limit is word 5, the first that is written
-  deduct_first : {ws : List ℕ} → First u ws → First u (deduct ws)
+  pub deduct_first : {ws : List ℕ} → First u ws → First u (deduct ws)
   unfolding deduct
   deduct_first {ws} f = eq_split (limit ws) 4294967295 _ _ (First u) (λ h. f) (λ h. put f 5 (less (limit ws)) (omega arith))
-
-  count_step_first : {ws : List ℕ} → First u ws → First u (count_step ws)
-  unfolding count_step
-  count_step_first {ws} f = deduct_first (put f 6 (next (steps ws)) (omega arith))
-
-  live_turn_first : {ws : List ℕ} → First u ws → (file sets : List ℕ) (n : ℕ) → First u (live_turn ws file sets n).ws
-  unfolding live_turn
-  live_turn_first {ws} f file sets n =
-      let t = node_word ws n 0 in
-      let v = visit_first (put f (node_at n 2) 0 (omega arith)) file sets t n in
-      tried_split _ _ _ _ (Leaves u) (leave_first v t) (leave_first (finish_edit_first (count_step_first v)) t) (λ r. v)
-
-  turn_first : {ws : List ℕ} → First u ws → (file sets : List ℕ) → First u (turn ws file sets).ws
-  unfolding turn entry_turn
-  turn_first {ws} f file sets =
-      let s = put f 14 (less (dirty_length ws)) (omega arith) in
-      eq_split _ 1 _ _ (Leaves u) (λ h. live_turn_first s file sets _) (λ h. put s 16 _ (omega arith))
-
-  go_on_first : {ws : List ℕ} → First u ws → (file sets : List ℕ) (most s : ℕ) → First u (go_on ws file sets most s).ws
-  unfolding go_on step_on
-  go_on_first {ws} f file sets most s =
-      let a = turn_first f file sets in
-      pick_split (over ws most s) _ _ (Leaves u) f
-      (eq_split (dirty_length ws) 0 _ _ (Leaves u) (λ h. f)
-      (λ h. tried_split (turn ws file sets).is _ _ _ (Leaves u) a a (λ r. a)))
-
-  run_first : (k : ℕ) {ws : List ℕ} → First u ws → (file sets : List ℕ) (most s : ℕ) → First u (run ws file sets most s k).ws
-  unfolding run
-  run_first zero f file sets most s = f
-  run_first (suc k) {ws} f file sets most s =
-      let g = go_on_first f file sets most s in
-      went_split (go_on ws file sets most s).is _ _ _ (Leaves u) (λ s'. run_first k g file sets most s') g (λ r. g)
-
-pub slice_first : (ws file : List ℕ) (n : ℕ) → First ws (slice ws file n).ws
-unfolding slice
-slice_first ws file n = run_first fuel (all_same ws) file (rule_sets file (replicate 2112 0)) n 0
-
-pub slice_head : (ws file : List ℕ) (n i : ℕ) → i < 5 → get_or (slice ws file n).ws i 0 ≡ get_or ws i 0
-slice_head ws file n i h = (slice_first ws file n).same i (omega arith)

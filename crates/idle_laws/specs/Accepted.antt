@@ -43,7 +43,7 @@ module _ (bs : List ℕ) (bytes : Bytes bs) (f : File FlatNet) (accepted : read 
       go (passed e') k = k
 
   -- a slice ends in an engine that is reached
-  slice_reached : {e : Engine} (n : Option ℕ) (e' : Engine) (k : ℕ) → Reached p f e → run_slice n e ≡ ok (e', k) → Reached p f e'
+  pub slice_reached : {e : Engine} (n : Option ℕ) (e' : Engine) (k : ℕ) → Reached p f e → run_slice n e ≡ ok (e', k) → Reached p f e'
   unfolding run_slice
   slice_reached {e} n e' k r h = go (run fuel n e) (run_reached p f fuel n e r) h
     where
@@ -54,12 +54,3 @@ module _ (bs : List ℕ) (bytes : Bytes bs) (f : File FlatNet) (accepted : read 
       go : (q : Result Engine) → Answers (Reached p f) q → ◌>>=◌ {B = Engine × ℕ} q (λ e''. ok (e'', e''.steps - e.steps)) ≡ ok (e', k) → Reached p f e'
       go (ok e'') x y = subst (Reached p f) (ap first y) x
       go (refuse q) x y = absurd (let z : ◌≡◌ {A = ℕ} 0 1 = cc in omega arith)
-
-  -- where a slice ends without a refusal and slice and file limit both have steps over, no rule can act in any included net, save a
-  -- graft whose named net has an unanswered wait
-  pub no_rule_can_act : {e : Engine} (n : Option ℕ) (e' : Engine) (k : ℕ) → Reached p f e → run_slice n e ≡ ok (e', k) → spent (less k n) ≡ false → spent e'.limit ≡ false
-      → (m : Option ℕ) → CanAct e'.rules (homes e') (graph_of e') m → Excepted e' m
-  no_rule_can_act {e} n e' k r h s t =
-      let r' = slice_reached n e' k r h in
-      let i = reached_image bs bytes f accepted p fits r' in
-      rest_excepted e' i.books i.idle (reached_placed r') (subst Rising (sym i.file.names) (included_rising bs bytes f accepted)) (slice_empty n e e' k h s t)
