@@ -5,6 +5,4 @@ use Rattle.resolve_tree.proofs.accepted.Goals as goal
 pub returns : goal.returns
 returns c =
     let r = c.resolved-r.ensures in
-    let n = c.resolved-r.new in
-    let t = c.type_inv in
-    (r.0, words_cleared _ _ c.resolved-r.new.ws _ c.clear_words.ensures (omega arith) ?, r.2)
+    (r.0, words_cleared _ _ c.resolved-r.new.ws _ c.clear_words.ensures (omega arith) c.resolved-r.auto.ws, r.2)
