@@ -13,7 +13,7 @@ use Rattle.definitions.specs.State.{Engine}
 use Rattle.definitions.specs.Run
 use Rattle.good_laws.specs.Good.{rest}
 use Rattle.slice_laws.specs.Loop.{Lasts}
-use Rattle.fuel_laws.specs.Lasts as Engine-as-Lasts
+use Rattle.fuel_laws.proofs.Lasts as Engine-as-Lasts
 use Rattle.reached_laws.specs.Wires.{Wires, wires_sound}
 use Rattle.words.specs.Choose.{lt_no}
 use Rattle.words.specs.Left.{Left}
