@@ -32,18 +32,18 @@ use Rattle.calls_means.specs.Carries.{Carries, Outcomes, carries_room, carries_l
 abbrev pub steps_told : ℕ → ℕ
 steps_told n = n
 
-pick_or : (t u : Bool) → pick t true u ≡ (t || u)
+pub pick_or : (t u : Bool) → pick t true u ≡ (t || u)
 unfolding pick
 pick_or true u = refl
 pick_or false u = refl
 
 -- 4, on the words and at level Engine
-steps_are : (n : ℕ) → steps_fit n ≡ limit_fits n
+pub steps_are : (n : ℕ) → steps_fit n ≡ limit_fits n
 unfolding steps_fit limit_fits if_eq
 steps_are n = pick_or (eqb n no_limit) (leb n 16777216)
 
 -- the number as a limit
-most_of : (n : ℕ) → Most (limit_of n) n 0
+pub most_of : (n : ℕ) → Most (limit_of n) n 0
 unfolding limit_of
 most_of n = go (eqb n no_limit) refl
   where
@@ -66,7 +66,7 @@ sliced n w p h e = ap {A = Result Held} (λ r. Slices n (r >>= λ g. need (limit
 
 module _ (q : Lent.Pools) (ws bs : List ℕ) (h : Held) (c : Carries q ws bs h) (n : ℕ) where
   -- the words after a slice carry the run that was gone on with
-  ran_carries : (x : Engine × ℕ) → run_slice (limit_of n) h.engine ≡ ok x → SliceEnds c.s h.file (run_slice_words ws c.s n) (ok x)
+  pub ran_carries : (x : Engine × ℕ) → run_slice (limit_of n) h.engine ≡ ok x → SliceEnds c.s h.file (run_slice_words ws c.s n) (ok x)
       → Carries q (run_slice_words ws c.s n).ws bs (record { file = h.file; engine = x.0 })
   ran_carries x i t = record {
     s = c.s;
@@ -79,47 +79,3 @@ module _ (q : Lent.Pools) (ws bs : List ℕ) (h : Held) (c : Carries q ws bs h) 
     mark = slice_head ws c.s n 0 (omega arith) ∙ c.mark;
     long = slice_head ws c.s n 4 (omega arith) ∙ c.long;
   }
-
-  -- 9 to 14 leave zeros
-  held_slices : Outcomes steps_told q ws bs (run_held q n ws bs) (Runs h.file (run_slice (limit_of n) h.engine))
-  held_slices =
-      go (run_slice (limit_of n) h.engine) refl (Visiting.slice_is_engine c.s c.are h.file c.reads ws h.engine c.holds (limit_of n) n (most_of n))
-    where
-      go : (r : Result (Engine × ℕ)) → run_slice (limit_of n) h.engine ≡ r → SliceEnds c.s h.file (run_slice_words ws c.s n) r
-          → Outcomes steps_told q ws bs (run_held q n ws bs) (Runs h.file r)
-      go (refuse m) i t =
-          let l = run_slice_words ws c.s n in
-          let y : ◌≡◌ {A = Lent} (record { is = Refused m; ws = zero_words q l.ws; bs = zero_bytes (length c.s) bs }) (run_held q n ws bs)
-          = held_refused q n (length c.s) t.0 m ws l.ws _ bs _ c.s l.is (sym (carries_length q ws bs h c)) (sym c.kept) refl refl t.1 refl refl in
-          let b : zero_bytes (length c.s) bs ≡ zero_bytes (length (write flat h.file)) bs = ap (λ (x : List ℕ). zero_bytes (length x) bs) (sym (carries_bytes q ws bs h c)) in
-          subst (λ (x : Lent). Outcomes steps_told q ws bs x (refuse m, zeros (length (write flat h.file)))) y (refl, (l.ws, refl, b))
-      go (ok x) i t =
-          let l = run_slice_words ws c.s n in
-          let y : ◌≡◌ {A = Lent} (record { is = Done x.1; ws = l.ws; bs = bs }) (run_held q n ws bs)
-          = held_ran q n (length c.s) x.1 ws l.ws bs c.s l.is (sym (carries_length q ws bs h c)) (sym c.kept) refl refl t.0 in
-          subst (λ (z : Lent). Outcomes steps_told q ws bs z (ok x.1, image (record { file = h.file; engine = x.0 }))) y (refl, (ran_carries x i t, refl))
-
-  -- 4
-  image_slices : (t : Bool) → limit_fits n ≡ t → Outcomes steps_told q ws bs (slice_image q n ws bs) (Slices n (need t 4 (ok h)))
-  image_slices false e =
-      subst (λ (x : Lent). Outcomes steps_told q ws bs x (refuse 4, unchanged))
-      (image_steps q n ws bs true false (sym (carries_resumable q ws bs h c)) refl (sym (steps_are n ∙ e)) refl) (refl, (refl, refl))
-  image_slices true e =
-      let x = run_held q n ws bs in
-      subst (λ (y : Lent). Outcomes steps_told q ws bs y (Runs h.file (run_slice (limit_of n) h.engine)))
-      (image_runs q n ws x.ws bs x.bs true true x.is (sym (carries_resumable q ws bs h c)) refl (sym (steps_are n ∙ e)) refl refl refl refl) held_slices
-
-  -- by level Engine's tests
-  pub slice_tells : Outcomes steps_told q ws bs (slice q n ws bs) (Slices n (need (limit_fits n) 4 (ok h)))
-  slice_tells =
-      let x = slice_image q n ws bs in
-      let y = slice_room q n ws x.ws bs x.bs true x.is (sym (carries_room q ws bs h c)) refl refl refl refl in
-      subst (λ (z : Lent). Outcomes steps_told q ws bs z (Slices n (need (limit_fits n) 4 (ok h)))) y (image_slices (limit_fits n) refl)
-
-  -- for a workspace that goes on with this run
-  pub slice_resumes : (w : Workspace) → resume w (pools_of q) ≡ ok h → Outcomes steps_told q ws bs (slice q n ws bs) (Calls.slice w (pools_of q) n)
-  slice_resumes w e = subst (Outcomes steps_told q ws bs (slice q n ws bs)) (sym (sliced n w (pools_of q) h e)) slice_tells
-
-  -- `slice-is-engine`
-  pub slice_is_engine : Outcomes steps_told q ws bs (slice q n ws bs) (Calls.slice (space ws bs (some h)) (pools_of q) n)
-  slice_is_engine = slice_resumes (space ws bs (some h)) (carries_resumes q ws bs h c)

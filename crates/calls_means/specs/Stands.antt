@@ -14,7 +14,7 @@ use Rattle.finishing.specs.Finishing.{finish}
 use Rattle.start_means.specs.Start.{pools_of}
 use Rattle.optimize_means.specs.Room.{space}
 use Rattle.calls_means.specs.Carries.{Carries, Leaves, Outcomes, of_pools}
-use Rattle.calls_means.specs.Slice.{steps_told, slice_is_engine}
+use Rattle.calls_means.specs.Slice.{steps_told}
 use Rattle.calls_means.specs.Finish.{Finishes, finish_is_engine}
 use Rattle.calls_means.specs.Absent.{slice_refused, finish_refused, zeros_absent, others_absent, none_resumes, others_resume}
 
@@ -34,7 +34,7 @@ leaves_stand q ws bs w b held (zeros n) s t =
 leaves_stand q ws bs w b held (image h) s t = (q, t.0)
 
 -- pools that do not differ are the same
-pools_same : (p q : Lent.Pools) → same_pools (pools_of p) (pools_of q) ≡ true → q ≡ p
+pub pools_same : (p q : Lent.Pools) → same_pools (pools_of p) (pools_of q) ≡ true → q ≡ p
 unfolding same_pools
 pools_same p q h =
     let b = both (eqb p.nodes q.nodes && eqb p.entries q.entries) (eqb p.waits q.waits) h in
@@ -46,20 +46,13 @@ pools_same p q h =
 
 module _ (q : Lent.Pools) (ws bs : List ℕ) where
   -- a fact of every call: where the words are no image for it, and where they carry a run in its pools
-  by_pools : (h : Held) → Stands ws bs (some h) → (P : Type 0)
+  pub by_pools : (h : Held) → Stands ws bs (some h) → (P : Type 0)
       → (resumable q.nodes q.entries q.waits ws bs ≡ false → same_pools (pools_of q) h.engine.pools ≡ false → P) → (Carries q ws bs h → P) → P
   by_pools h s P other own = go (same_pools (pools_of q) (pools_of s.0)) refl
     where
       go : (t : Bool) → same_pools (pools_of q) (pools_of s.0) ≡ t → P
       go true e = own (subst (λ (p : Lent.Pools). Carries p ws bs h) (pools_same q s.0 e) s.1)
       go false e = other (others_absent s.0 q ws bs h s.1 e) (ap (same_pools (pools_of q)) (of_pools s.0 ws bs h s.1) ∙ e)
-
-  -- a slice
-  pub slice_stands : (n : ℕ) (held : Option Held) → Stands ws bs held → Outcomes steps_told q ws bs (slice q n ws bs) (Calls.slice (space ws bs held) (pools_of q) n)
-  slice_stands n none s = slice_refused q ws bs (space ws bs none) (s q) (none_resumes q ws bs) n
-  slice_stands n (some h) s =
-      by_pools h s (Outcomes steps_told q ws bs (slice q n ws bs) (Calls.slice (space ws bs (some h)) (pools_of q) n))
-      (λ a d. slice_refused q ws bs (space ws bs (some h)) a (others_resume q ws bs h d) n) (λ c. slice_is_engine q ws bs h c n)
 
   -- a finish
   pub finish_stands : (out : List ℕ) → length out < 18446744073709551616 → (held : Option Held) → Stands ws bs held

@@ -26,7 +26,8 @@ use Rattle.lent.specs.declared.Pools as Lent
 use Rattle.lent.specs.declared.Answer.TheVariants.{Done, Refused}
 use Rattle.slicing.specs.Slicing.{steps_fit, run_held, slice_image, slice}
 use Rattle.calls_means.specs.Carries.{Carries, Outcomes, carries_room, carries_length, carries_bytes, carries_resumable}
-use Rattle.calls_means.specs.Slice.{steps_told, Runs, Slices, slice_tells}
+use Rattle.calls_means.specs.Slice.{steps_told, Runs, Slices}
+use Rattle.calls_means.proofs.Slice.{slice_tells}
 
 -- what a call leaves of a run of the file s: the words as they are, or zeros where it is refused
 unfoldable pub left_by : Lent.Pools → List ℕ → List ℕ → Left Ran → Lent

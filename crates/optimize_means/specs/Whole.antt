@@ -37,11 +37,11 @@ Outcomes q ws bs out x o = (x.is ≡ answer_of o.0) × (x.out ≡ written o.0 ou
 
 module _ (q : Lent.Pools) (ws bs s out : List ℕ) (is : Bytes s) (size : length out < 18446744073709551616) where
   -- a refusal that leaves all as it was
-  refused : (n : ℕ) → Outcomes q ws bs out (record { is = Refused n; ws = ws; bs = bs; out = out }) (refuse n, unchanged)
+  pub refused : (n : ℕ) → Outcomes q ws bs out (record { is = Refused n; ws = ws; bs = bs; out = out }) (refuse n, unchanged)
   refused n = (refl, unwritten out n, (refl, refl))
 
   -- an accepted file: zeros, whatever comes
-  file_gives : (f : File FlatNet) → read flat s ≡ ok f → room q ws ≡ true
+  pub file_gives : (f : File FlatNet) → read flat s ≡ ok f → room q ws ≡ true
       → Outcomes q ws bs out (optimize_file q ws bs s out) (optimized (pools_of q) f >>= deliver (length out), zeros (length s))
   unfolding optimize_file
   file_gives f accepted h =
@@ -49,50 +49,6 @@ module _ (q : Lent.Pools) (ws bs s out : List ℕ) (is : Bytes s) (size : length
       let g = loaded_gives s is f accepted q r.0 ws r.2 r.1.few_nodes r.1.few_entries r.1.few_waits out size in
       (g.0, g.1, ((optimize_loaded q ws s out).ws, refl, refl))
 
-  -- 2 to 8
-  checked_gives : room q ws ≡ true → (r : Result (File FlatNet)) → read flat s ≡ r
-      → Outcomes q ws bs out (optimize_checked q ws bs s out) (elim r as (λ _. Outcome (List ℕ)) [
-        | refuse n ↦ (refuse n, unchanged)
-        | ok f ↦ (optimized (pools_of q) f >>= deliver (length out), zeros (length s))
-      ])
-  unfolding verdict
-  checked_gives h (refuse n) e =
-      subst (λ (x : Given). Outcomes q ws bs out x (refuse n, unchanged)) (file_refused q ws bs s out (Checked-as-Refused n) n (ap verdict (sym e)) refl) (refused n)
-  checked_gives h (ok f) e =
-      let x = optimize_file q ws bs s out in
-      subst (λ (y : Given). Outcomes q ws bs out y (optimized (pools_of q) f >>= deliver (length out), zeros (length s)))
-      (file_accepted q ws x.ws bs x.bs s out x.out Accepted x.is (ap verdict (sym e)) refl refl refl refl refl) (file_gives f e h)
-
-  -- 1
-  all_gives : (t u : Bool) → room q ws ≡ t → leb (length s) (length bs) ≡ u
-      → Outcomes q ws bs out (optimize q ws bs s out) (elim (need (t && u) 1 (read flat s)) as (λ _. Outcome (List ℕ)) [
-        | refuse n ↦ (refuse n, unchanged)
-        | ok f ↦ (optimized (pools_of q) f >>= deliver (length out), zeros (length s))
-      ])
-  all_gives false u h i = subst (λ (x : Given). Outcomes q ws bs out x (refuse 1, unchanged)) (optimize_no_room q ws bs s out false (sym h) refl) (refused 1)
-  all_gives true false h i =
-      subst (λ (x : Given). Outcomes q ws bs out x (refuse 1, unchanged)) (optimize_short q ws bs s out true (sym h) refl (leb-false (length s) (length bs) i)) (refused 1)
-  all_gives true true h i =
-      let x = optimize_checked q ws bs s out in
-      subst (λ (y : Given). Outcomes q ws bs out y (elim (read flat s) as (λ _. Outcome (List ℕ)) [
-        | refuse n ↦ (refuse n, unchanged)
-        | ok f ↦ (optimized (pools_of q) f >>= deliver (length out), zeros (length s))
-      ]))
-      (optimize_checks q ws x.ws bs x.bs s out x.out true x.is (sym h) refl (leb-true (length s) (length bs) i) refl refl refl refl) (checked_gives h (read flat s) refl)
-
-  and_then : (a b c : Bool) → (a && (b && c)) ≡ ((a && b) && c)
+  pub and_then : (a b c : Bool) → (a && (b && c)) ≡ ((a && b) && c)
   and_then true b c = refl
   and_then false b c = refl
-
-  -- `result-is-engine`
-  pub result_is_engine : (held : Option Held) → Outcomes q ws bs out (optimize q ws bs s out) (Calls.optimize (space ws bs held) (pools_of q) (length out) s)
-  unfolding Calls.optimize accept words_of
-  result_is_engine held =
-      let p = pools_fit (pools_of q) in
-      let l = leb (words_of q) (length ws) in
-      let u = leb (length s) (length bs) in
-      let same : (p && (l && u)) ≡ (room q ws && u) = and_then p l u ∙ ap (λ (b : Bool). b && u) (sym (room_is q ws)) in
-      subst (λ (t : Bool). Outcomes q ws bs out (optimize q ws bs s out) (elim (need t 1 (read flat s)) as (λ _. Outcome (List ℕ)) [
-        | refuse n ↦ (refuse n, unchanged)
-        | ok f ↦ (optimized (pools_of q) f >>= deliver (length out), zeros (length s))
-      ])) (sym same) (all_gives (room q ws) u refl refl)
