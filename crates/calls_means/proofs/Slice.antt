@@ -29,7 +29,6 @@ use Rattle.calls_means.specs.Carries.{Carries, Outcomes, carries_room, carries_l
 use Rattle.calls_means.specs.Slice.{steps_told, steps_are, most_of, Runs, Slices, sliced, ran_carries}
 
 module _ (q : Lent.Pools) (ws bs : List ℕ) (h : Held) (c : Carries q ws bs h) (n : ℕ) where
-
   -- 9 to 14 leave zeros
   held_slices : Outcomes steps_told q ws bs (run_held q n ws bs) (Runs h.file (run_slice (limit_of n) h.engine))
   held_slices =

@@ -33,9 +33,7 @@ use Rattle.calls_means.proofs.Slice.{slice_tells, slice_resumes}
 use Rattle.calls_means.specs.Slices.{add_steps, go_on, slice_calls_words, Keeps, Tells, added, resumes_on, Onward, Goes}
 
 module _ (q : Lent.Pools) where
-
   module _ (ns : List ℕ) (next : (Onward q) ns) (ws bs : List ℕ) (h : Held) (c : Carries q ws bs h) (w : Workspace) (e : resume w (pools_of q) ≡ ok h) where
-
     ran_on : (x : Lent) (r : Result (Engine × ℕ)) → (Goes q ns next ws bs h c w e) x (Runs h.file r)
     unfolding go_on on_answer after
     ran_on x (refuse k) t = rw t.0 (refl, (t.1.0, length (write flat h.file), t.1.1, t.1.2))

@@ -20,7 +20,6 @@ use Rattle.calls_means.specs.Absent.{slice_refused, finish_refused, zeros_absent
 use Rattle.calls_means.specs.Stands.{Stands, by_pools}
 
 module _ (q : Lent.Pools) (ws bs : List ℕ) where
-
   -- a slice
   pub slice_stands : (n : ℕ) (held : Option Held) → Stands ws bs held → Outcomes steps_told q ws bs (slice q n ws bs) (Calls.slice (space ws bs held) (pools_of q) n)
   slice_stands n none s = slice_refused q ws bs (space ws bs none) (s q) (none_resumes q ws bs) n

@@ -23,7 +23,6 @@ use Rattle.head_kept.specs.Graft.{graft_first}
 use Rattle.head_kept.specs.Run.{went_split, visit_first, leave_first, deduct_first}
 
 module _ {u : List ℕ} where
-
   count_step_first : {ws : List ℕ} → First u ws → First u (count_step ws)
   unfolding count_step
   count_step_first {ws} f = deduct_first (put f 6 (next (steps ws)) (omega arith))

@@ -32,7 +32,6 @@ use Rattle.idle_laws.specs.Rest.{Excepted, rest_excepted}
 use Rattle.idle_laws.specs.Accepted.{reached_placed, slice_reached}
 
 module _ (bs : List ℕ) (bytes : Bytes bs) (f : File FlatNet) (accepted : read flat bs ≡ ok f) (p : Pools) (fits : pools_fit p ≡ true) where
-
   -- where a slice ends without a refusal and slice and file limit both have steps over, no rule can act in any included net, save a
   -- graft whose named net has an unanswered wait
   pub no_rule_can_act : {e : Engine} (n : Option ℕ) (e' : Engine) (k : ℕ) → Reached p f e → run_slice n e ≡ ok (e', k) → spent (less k n) ≡ false → spent e'.limit ≡ false

@@ -26,7 +26,6 @@ use Rattle.optimize_means.specs.Room.{space, room_is, room_ranges}
 use Rattle.optimize_means.specs.Whole.{Outcomes, refused, file_gives, and_then}
 
 module _ (q : Lent.Pools) (ws bs s out : List ℕ) (is : Bytes s) (size : length out < 18446744073709551616) where
-
   -- 2 to 8
   checked_gives : room q ws ≡ true → (r : Result (File FlatNet)) → read flat s ≡ r
       → Outcomes q ws bs out (optimize_checked q ws bs s out) (elim r as (λ _. Outcome (List ℕ)) [
