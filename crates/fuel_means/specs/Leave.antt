@@ -40,29 +40,29 @@ use Rattle.fuel_means.specs.Call.{left_by, sum_fits, number_small, fits_small, n
 -- ---- calls in order
 
 -- what a call leaves, with j steps more
-abbrev more_steps : ℕ → Lent → Lent
+abbrev pub more_steps : ℕ → Lent → Lent
 more_steps j y = record { is = add_steps j y.is; ws = y.ws; bs = y.bs }
 
-steps_added : (q : Lent.Pools) (s bs : List ℕ) (j : ℕ) (i : Ran) (w : List ℕ)
+pub steps_added : (q : Lent.Pools) (s bs : List ℕ) (j : ℕ) (i : Ran) (w : List ℕ)
     → more_steps j (left_by q s bs (record { is = i; ws = w })) ≡ left_by q s bs (later j (record { is = i; ws = w }))
 unfolding left_by on_ran add_steps on_answer later longer
 steps_added q s bs j (Rested k) w = refl
 steps_added q s bs j (Ran-as-Refused k m) w = refl
 
 -- a run that rests after j steps, and then what another leaves: both in one
-joined : (q : Lent.Pools) (s bs : List ℕ) (a r : Left Ran) (j : ℕ) (calls : List ℕ → List ℕ → Lent) → a.is ≡ Rested j → calls a.ws bs ≡ left_by q s bs r
+pub joined : (q : Lent.Pools) (s bs : List ℕ) (a r : Left Ran) (j : ℕ) (calls : List ℕ → List ℕ → Lent) → a.is ≡ Rested j → calls a.ws bs ≡ left_by q s bs r
     → go_on (left_by q s bs a) calls ≡ left_by q s bs (later j r)
 unfolding left_by on_ran go_on on_answer
 joined q s bs a r j calls t e = rw (t, e) (steps_added q s bs j r.is r.ws)
 
 -- a run that is refused is the last
-stopped : (q : Lent.Pools) (s bs : List ℕ) (a : Left Ran) (j r : ℕ) (calls : List ℕ → List ℕ → Lent) → a.is ≡ Ran-as-Refused j r → go_on (left_by q s bs a) calls ≡ left_by q s bs a
+pub stopped : (q : Lent.Pools) (s bs : List ℕ) (a : Left Ran) (j r : ℕ) (calls : List ℕ → List ℕ → Lent) → a.is ≡ Ran-as-Refused j r → go_on (left_by q s bs a) calls ≡ left_by q s bs a
 unfolding left_by on_ran go_on on_answer
 stopped q s bs a j r calls t = rw t refl
 
 module _ (q : Lent.Pools) where
   -- on words with nothing to do slices take no step
-  idle_calls : (ns ws bs : List ℕ) (h : Held) → Carries q ws bs h → alive ws ≡ false → all limit_fits ns ≡ true → slice_calls_words q ns ws bs ≡ record { is = Done 0; ws = ws; bs = bs }
+  pub idle_calls : (ns ws bs : List ℕ) (h : Held) → Carries q ws bs h → alive ws ≡ false → all limit_fits ns ≡ true → slice_calls_words q ns ws bs ≡ record { is = Done 0; ws = ws; bs = bs }
   unfolding slice_calls_words go_on on_answer add_steps left_by on_ran
   idle_calls [] ws bs h c d l = refl
   idle_calls (n ∷ ns) ws bs h c d l =
@@ -71,11 +71,11 @@ module _ (q : Lent.Pools) where
 
   module _ (n : ℕ) (ns ws bs : List ℕ) (h : Held) (c : Carries q ws bs h) (l : limit_fits n ≡ true) (m : all limit_fits ns ≡ true) where
     -- the first run
-    abbrev a : Left Ran
+    abbrev pub a : Left Ran
     a = run_slice ws c.s n
 
     -- it is refused: N is refused so
-    refused_leave : (N j r : ℕ) → n ≤ N → N ≤ 4294967295 → limit_fits N ≡ true → a.is ≡ Ran-as-Refused j r → slice_calls_words q (n ∷ ns) ws bs ≡ slice q N ws bs
+    pub refused_leave : (N j r : ℕ) → n ≤ N → N ≤ 4294967295 → limit_fits N ≡ true → a.is ≡ Ran-as-Refused j r → slice_calls_words q (n ∷ ns) ws bs ≡ slice q N ws bs
     unfolding slice_calls_words
     refused_leave N j r b k f t =
         ap (λ (x : Lent). go_on x (λ w b. slice_calls_words q ns w b)) (call_is q ws bs h c c.s refl n l)
@@ -84,7 +84,7 @@ module _ (q : Lent.Pools) where
         ∙ sym (call_is q ws bs h c c.s refl N f)
 
     -- it rests, and the other slices leave what the run r does: N is both
-    rested_leave : (N j : ℕ) (r : Left Ran) → limit_fits N ≡ true → a.is ≡ Rested j → slice_calls_words q ns a.ws bs ≡ left_by q c.s bs r
+    pub rested_leave : (N j : ℕ) (r : Left Ran) → limit_fits N ≡ true → a.is ≡ Rested j → slice_calls_words q ns a.ws bs ≡ left_by q c.s bs r
         → run_slice ws c.s N ≡ later j r → slice_calls_words q (n ∷ ns) ws bs ≡ slice q N ws bs
     unfolding slice_calls_words
     rested_leave N j r f t e g =
@@ -92,7 +92,7 @@ module _ (q : Lent.Pools) where
         ∙ joined q c.s bs a r j (λ w b. slice_calls_words q ns w b) t e ∙ ap (left_by q c.s bs) (sym g) ∙ sym (call_is q ws bs h c c.s refl N f)
 
     -- n is none
-    leave_none : n ≡ no_limit → (i : Ran) → a.is ≡ i → slice_calls_words q (n ∷ ns) ws bs ≡ slice q n ws bs
+    pub leave_none : n ≡ no_limit → (i : Ran) → a.is ≡ i → slice_calls_words q (n ∷ ns) ws bs ≡ slice q n ws bs
     unfolding left_by on_ran later longer
     leave_none e (Ran-as-Refused j r) t = refused_leave n j r (omega arith) (omega arith) l t
     leave_none e (Rested j) t =
@@ -104,19 +104,19 @@ module _ (q : Lent.Pools) where
         rested_leave n j (at_rest 0 a.ws) l t (idle_calls ns a.ws bs _ o.carries d m) p
 
     -- that the other slices are one of v
-    abbrev Next : Option ℕ → Type 0
+    abbrev pub Next : Option ℕ → Type 0
     Next v = (w : List ℕ) (g : Held) → Carries q w bs g → SumFits v → slice_calls_words q ns w bs ≡ slice q (limit_number v) w bs
 
     -- then all are one of u and v
-    abbrev Goal : Option ℕ → Option ℕ → Type 0
+    abbrev pub Goal : Option ℕ → Option ℕ → Type 0
     Goal u v = SumFits (u ⊕ v) → slice_calls_words q (n ∷ ns) ws bs ≡ slice q (limit_number (u ⊕ v)) ws bs
 
-    longer_sum : (v : Option ℕ) → n ≤ 4294967295 → n ≤ limit_number (some n ⊕ v)
+    pub longer_sum : (v : Option ℕ) → n ≤ 4294967295 → n ≤ limit_number (some n ⊕ v)
     unfolding limit_number
     longer_sum none b = b
     longer_sum (some k) b = omega arith
 
-    leave_some : (v : Option ℕ) → Next v → n ≤ 4294967295 → (i : Ran) → a.is ≡ i → Goal (some n) v
+    pub leave_some : (v : Option ℕ) → Next v → n ≤ 4294967295 → (i : Ran) → a.is ≡ i → Goal (some n) v
     unfolding limit_number
     leave_some v next b (Ran-as-Refused j r) t f =
         refused_leave (limit_number (some n ⊕ v)) j r (longer_sum v b) (number_small (some n ⊕ v) f) (sum_fits (some n ⊕ v) f) t
@@ -143,7 +143,7 @@ module _ (q : Lent.Pools) where
             rested_leave (n + x) j (run_slice a.ws c.s x) (sum_fits (some (n + x)) f) t (others (some x) next y)
             (slice_and_slice c.s c.are h.file c.reads ws h.engine c.holds n j a refl t o.e held x (omega arith))
 
-    leave_by : (v : Option ℕ) → Next v → Goal (limit_of n) v
+    pub leave_by : (v : Option ℕ) → Next v → Goal (limit_of n) v
     unfolding limit_number
     leave_by v next = elim (number_is n) [
       | inl p ↦ subst (λ (u : Option ℕ). Goal u v) (sym p.1) (λ f. leave_none p.0 a.is refl ∙ ap (λ (x : ℕ). slice q x ws bs) p.0)
@@ -158,10 +158,3 @@ module _ (q : Lent.Pools) where
   slices_leave (n ∷ ns) ws bs h c l f =
       let b = both (limit_fits n) (all limit_fits ns) l in
       leave_by n ns ws bs h c b.0 b.1 (total (map limit_of ns)) (λ w g d s. slices_leave ns w bs g d b.1 s) f
-
-  -- numbers that add up to at most 16,777,216
-  pub slices_of_sum : (ns ws bs : List ℕ) (h : Held) → Carries q ws bs h → sum ns ≤ 16777216 → slice_calls_words q ns ws bs ≡ slice q (sum ns) ws bs
-  unfolding limit_number
-  slices_of_sum ns ws bs h c b =
-      let t = sum_is ns b in
-      slices_leave ns ws bs h c t.1 (subst SumFits (sym t.0) b) ∙ ap (λ (o : Option ℕ). slice q (limit_number o) ws bs) t.0
