@@ -38,7 +38,6 @@ use Rattle.fuel_means.specs.Call.{left_by, sum_fits, number_small, fits_small, n
 use Rattle.fuel_means.specs.Leave.{slices_leave}
 
 module _ (q : Lent.Pools) where
-
   -- numbers that add up to at most 16,777,216
   pub slices_of_sum : (ns ws bs : List ℕ) (h : Held) → Carries q ws bs h → sum ns ≤ 16777216 → slice_calls_words q ns ws bs ≡ slice q (sum ns) ws bs
   unfolding limit_number
