@@ -1,7 +1,7 @@
 #!/usr/bin/env python3
 """Spells the repository's own definitions and lemmas as today's Rattle does: words in snake case.
 
-usage: tools/snake_names.py         once, at the top, right after /opt/rattle/port/port.py
+usage: tools/snake_names.py         once, at the top, right after the port.py of the kit
 
     push-dirty, pairsOrdered, link-all-more  ->  push_dirty, pairs_ordered, link_all_more
 
