@@ -1,9 +1,8 @@
 -- Begin on the words and bytes. Level Words. Document 01: checks 1 to 8, then 9 and 10 as the nets are loaded.
-use Rattle.std.specs.Prelude.{ℕ, ◌%◌, List, length, set}
+use Rattle.std.specs.Prelude.{Ok, Err, ℕ, ◌%◌, List, length, set}
 use Rattle.net_file.specs.Checks.{flat, read}
-use Rattle.net_check.specs.Verdict.{verdict}
-use Rattle.net_check.specs.declared.Checked.{Checked}
-use Rattle.net_check.specs.declared.Checked.TheVariants.{Accepted, Refused}
+use Rattle.refusals.specs.Numbers.{number}
+use Rattle.net_check.specs.Verdict.{Checked, verdict}
 use Rattle.words.specs.Choose.{pick, if_eq, if_lt}
 use Rattle.words.specs.Left.{Left}
 use Rattle.fields.specs.Fields.{be32}
@@ -12,7 +11,6 @@ use Rattle.load.specs.Load.{load}
 use Rattle.clear.specs.Zeroed.{zeroed}
 use Rattle.lent.specs.Lent.{Lent, words_of, room, zero_words, zero_bytes}
 use Rattle.lent.specs.declared.Pools.{Pools}
-use Rattle.lent.specs.declared.Answer.{Answer}
 use Rattle.lent.specs.declared.Answer.TheVariants.{Done}
 use Rattle.lent.specs.declared.Answer.TheVariants.{Refused as Answer-as-Refused}
 
@@ -37,8 +35,8 @@ load_file p ws bs file =
 
 -- by a checker's answer
 unfoldable pub on_checked : {A : Type 0} → Checked → A → (ℕ → A) → A
-on_checked Accepted accepted refused = accepted
-on_checked (Refused r) accepted refused = refused r
+on_checked (Ok u) accepted refused = accepted
+on_checked (Err r) accepted refused = refused (number r)
 
 -- 2 to 8 leave the workspace unchanged
 unfoldable pub checked_file : Pools → List ℕ → List ℕ → List ℕ → Lent

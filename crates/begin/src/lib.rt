@@ -5,7 +5,6 @@ ghost use Rattle.std.specs.Prelude.{◌≡◌};
 ghost use Rattle.begin.specs.Begin.{start, loaded, load_file, checked_file, begin};
 
 use lent::{Answer, Pools};
-use net_check::Checked;
 
 // The words of a run that holds no nets yet.
 fn start(p: Pools, ws: &mut [u32], file: &[u8])
@@ -48,8 +47,8 @@ fn checked_file(p: Pools, ws: &mut [u32], bs: &mut [u8], file: &[u8]) -> Answer
 {
     let checked = net_check::check_flat(file);
     match checked {
-        Checked::Accepted => load_file(p, ws, bs, file),
-        Checked::Refused(r) => Answer::Refused(r as u32),
+        Ok(()) => load_file(p, ws, bs, file),
+        Err(r) => Answer::Refused(r.number()),
     }
 }
 

@@ -1,6 +1,6 @@
 -- A file's nets to its last byte: a count, at most 256, the nets, at most 4,096 nodes in all, nothing left over; and each way
 -- out of the walk over them. For either version.
-use Rattle.std.specs.Prelude.{ℕ, ◌+◌, ◌-◌, ◌<◌, ◌≤◌, min, ◌≡◌, Bool, true, false, List, map, length, drop, eqb}
+use Rattle.std.specs.Prelude.{ℕ, ◌+◌, ◌-◌, ◌<◌, ◌≤◌, min, ◌≡◌, Bool, true, false, List, map, length, drop, eqb, Option, Some, None}
 use Rattle.std.proofs.Math.Path.{refl, ap}
 use Rattle.std.proofs.Common.{sym, ◌∙◌, arith, length-drop, eq-eqb, ne_eqb, le-leb}
 use Rattle.std.proofs.Math.Option.{some}
@@ -12,8 +12,6 @@ use Rattle.net_file.specs.Read.{Parser, then, ◌>>=◌, such, times, many, node
 use Rattle.fields.specs.Fields.{be16}
 use Rattle.stored.specs.Stored.{table_at, table_end}
 use Rattle.stored.specs.Laws.{Stands, stands_2, stands_many, stands_times}
-use Rattle.walk.specs.declared.Walked.{Walked}
-use Rattle.walk.specs.declared.Walked.TheVariants.{At, Bad}
 use Rattle.walk.specs.After.{after, after_none, after_some, after_bad, went, Went}
 use Rattle.walk.specs.Walk.{many_2_short, many_2_high, many_2_on}
 
@@ -47,31 +45,31 @@ module _ {Net : Type 0} (v : NetsOf Net) (s : List ℕ) (np nm q : ℕ) where
   read_net = v.read_net np nm
 
   -- the answer that is to be given
-  abbrev answer : Walked
+  abbrev answer : Option ℕ
   answer = after q (nets_part (v.read_net np nm) v.nodes) s
 
   -- what follows the nets
   abbrev after_nets : List Net → Parser (List Net)
   after_nets ns = such (nodes_fit v.nodes ns) ns >>= λ ms. ended ms
 
-  pub part_short : length s < q + 2 → Bad ≡ answer
+  pub part_short : length s < q + 2 → None ≡ answer
   unfolding nets_part
-  part_short l = after_bad (many 2 256 read_net) after_nets s q Bad (many_2_short s read_net q 256 l) refl
+  part_short l = after_bad (many 2 256 read_net) after_nets s q None (many_2_short s read_net q 256 l) refl
 
   module _ (k : ℕ) (i : 2 ≤ length s) (j : q ≤ length s - 2) (e : k ≡ be16 s q) where
-    pub part_high : 256 < k → Bad ≡ answer
+    pub part_high : 256 < k → None ≡ answer
     unfolding nets_part
-    part_high l = after_bad (many 2 256 read_net) after_nets s q Bad (many_2_high s read_net q 256 k i j e l) refl
+    part_high l = after_bad (many 2 256 read_net) after_nets s q None (many_2_high s read_net q 256 k i j e l) refl
 
-    module _ (l : k ≤ 256) (w : Walked) (ew : w ≡ after (q + 2) (times k (v.read_net np nm)) s) where
+    module _ (l : k ≤ 256) (w : Option ℕ) (ew : w ≡ after (q + 2) (times k (v.read_net np nm)) s) where
       counted : w ≡ after q (many 2 256 read_net) s
       counted = many_2_on s read_net q 256 k w i j e l ew
 
-      pub part_bad : w ≡ Bad → Bad ≡ answer
+      pub part_bad : w ≡ None → None ≡ answer
       unfolding nets_part
       part_bad b = after_bad (many 2 256 read_net) after_nets s q w counted b
 
-      module _ (m c : ℕ) (wa : w ≡ At m) (ec : c ≡ min 4097 (v.nets_nodes s (q + 2) k)) where
+      module _ (m c : ℕ) (wa : w ≡ Some m) (ec : c ≡ min 4097 (v.nets_nodes s (q + 2) k)) where
         abbrev nets : List Net
         nets = table_at (v.net_at s) (v.net_end s) (q + 2) (be16 s q)
 
@@ -92,16 +90,19 @@ module _ {Net : Type 0} (v : NetsOf Net) (s : List ℕ) (np nm q : ℕ) where
         unfolding nets_part
         rest t f = let y = gone in ap (λ o. then o after_nets) y.read ∙ (λ x. (such (fit t f x) nets >>= λ ms. ended ms) (drop (sym y.is x) s))
 
-        pub part_many : 4096 < c → Bad ≡ answer
+        pub part_many : 4096 < c → None ≡ answer
         part_many o = after_none (nets_part read_net v.nodes) s q (omega arith) (rest false (lt-leb c 4096 o))
 
-        pub part_left : c ≤ 4096 → (m ≡ length s → ⊥) → Bad ≡ answer
+        pub part_left : c ≤ 4096 → (m ≡ length s → ⊥) → None ≡ answer
         part_left o d =
             let y = gone in
             let n : length (drop m s) ≡ 0 → ⊥ = λ z. d (let x : length s - m ≡ 0 = rw length-drop at z in omega (arith, y.is, y.within)) in
             after_none (nets_part read_net v.nodes) s q (omega arith) (rest true (le-leb c 4096 o) ∙ ap (λ t. such t nets (drop m s)) (ne_eqb _ _ n))
 
-        pub part_all : c ≤ 4096 → m ≡ length s → At m ≡ answer
+        pub part_all : c ≤ 4096 → m ≡ length s → Some m ≡ answer
         part_all o d =
             let n : length (drop m s) ≡ 0 = rw length-drop (omega arith) in
             after_some (nets_part read_net v.nodes) s q nets m (omega arith) (rest true (le-leb c 4096 o) ∙ ap (λ t. such t nets (drop m s)) (eq-eqb _ _ n)) (omega arith)
+
+-- every way out, for the check of the walk
+pub ruleset ways = (part_short, part_high, part_bad, part_many, part_left, part_all)

@@ -1,16 +1,16 @@
 -- A body that is read was read part by part: what the checks 6 to 8 start from. For either version.
-use Rattle.std.specs.Prelude.{ℕ, suc, ◌+◌, ◌<◌, ◌≤◌, ◌≡◌, refl, Bool, true, false, List, drop}
+use Rattle.std.specs.Prelude.{ℕ, suc, ◌+◌, ◌≤◌, ◌≡◌, refl, Bool, true, false, List, drop}
 use Rattle.std.proofs.Common.{sym, ◌∙◌, arith}
 use Rattle.std.proofs.Math.Path.{ap, subst, subst₂}
-use Rattle.std.proofs.Math.Option.{Option, none, some}
+use Rattle.std.proofs.Math.Option.{some}
 use Rattle.std.proofs.Math.ListN.{length}
 use Rattle.net_file.specs.Values.{File}
-use Rattle.net_file.specs.Read.{Parser, ◌>>=◌, such, number, below, many, times, times_from, read_path, read_name, read_rule, paths_fit, nodes_fit, read_body}
-use Rattle.fields.specs.Fields.{be16, be32}
-use Rattle.stored.specs.Stored.{table_at, table_end, path_at, path_end, name_at, name_end, rule_at, rule_end, name_count_at, rule_count_at, net_count_at}
-use Rattle.stored.specs.Laws.{Stands, stands_2, stands_4, stands_such, stands_times_from, stands_below, stands_many, stands_times}
+use Rattle.net_file.specs.Read.{Parser, such, many, times, times_from, read_path, read_name, read_rule, paths_fit, read_body}
+use Rattle.fields.specs.Fields.{be16}
+use Rattle.stored.specs.Stored.{path_at, path_end, name_at, name_end, rule_at, rule_end, name_count_at, rule_count_at, net_count_at}
+use Rattle.stored.specs.Laws.{Stands, stands_2, stands_4, stands_such, stands_times_from, stands_below, stands_many}
 use Rattle.stored.specs.Parts.{stands_path, stands_name, stands_rule}
-use Rattle.stored.specs.Pass.{Passed, pass, under}
+use Rattle.stored.specs.Pass.{pass, under}
 use Rattle.stored.specs.Body.{paths_at, names_at, rules_at, nets_at, paths_counted, names_counted}
 
 -- a table: its count is read, and its elements after it

@@ -2,51 +2,32 @@
 #![tactic(auto)]
 
 ghost use Rattle.std.specs.Prelude.{◌≡◌};
+ghost use Rattle.net_file.specs.Values.{TreeNet};
 ghost use Rattle.net_file.specs.Read.{read_tree_net, read_body};
 ghost use Rattle.net_file.specs.Checks.{tree};
 ghost use Rattle.walk.specs.After.{after};
-ghost use Rattle.body.specs.Nets.{nets_part};
+ghost use Rattle.body_tree.specs.Tree.{tree_nets};
 
-use tables::Found;
-use walk::Walked;
+use body::Nets;
 
-// The nets, over np paths and nm names.
-fn tree_part(s: &[u8], at: usize, np: u32, nm: u32) -> Walked
-    ensures { result ≡ after at (nets_part (read_tree_net np nm) tree.nodes) s.now }
-{
-    if s.len() < 2 {
-        return Walked::Bad;
+struct TreeNets;
+
+impl Nets for TreeNets {
+    ghost Net = { TreeNet };
+
+    ghost kind = { tree_nets };
+
+    fn walk(s: &[u8], from: usize, n: u32, paths: u32, names: u32) -> Option<usize> {
+        walk_tree::tree_nets(s, from, n, paths, names)
     }
-    if s.len() - 2 < at {
-        return Walked::Bad;
+
+    fn nodes(s: &[u8], from: usize, n: u32) -> u32 {
+        scan_tree::nets_nodes(s, from, n)
     }
-    let k = fields::be16(s, at);
-    if 256 < k {
-        return Walked::Bad;
-    }
-    let w = walk_tree::tree_nets(s, at + 2, k as u32, np, nm);
-    let Walked::At(e) = w else {
-        return Walked::Bad;
-    };
-    if 4096 < scan_tree::nets_nodes(s, at + 2, k as u32) {
-        return Walked::Bad;
-    }
-    if e == s.len() {
-        return Walked::At(e);
-    }
-    Walked::Bad
 }
 
-pub fn tree_body(s: &[u8]) -> Walked
+pub fn tree_body(s: &[u8]) -> Option<usize>
     ensures { result ≡ after 5 (read_body read_tree_net tree.nodes) s.now }
 {
-    let t = tables::tables(s);
-    match t {
-        Found::At(m, q) => {
-            let np = fields::be16(s, 9);
-            let nm = fields::be16(s, m);
-            tree_part(s, q, np as u32, nm as u32)
-        }
-        Found::Bad => Walked::Bad,
-    }
+    body::body::<TreeNets>(s)
 }

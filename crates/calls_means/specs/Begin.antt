@@ -1,6 +1,6 @@
 -- `begin-is-engine`: begin on lent words and bytes answers what level Engine's does, and leaves both as they were, zeros, or the run
 -- that was loaded.
-use Rattle.std.specs.Prelude.{ℕ, ◌+◌, ◌-◌, ◌≤◌, ◌≡◌, Bool, true, false, ◌&&◌, List, length, take, drop}
+use Rattle.std.specs.Prelude.{Ok, Err, ℕ, ◌+◌, ◌-◌, ◌≤◌, ◌≡◌, Bool, true, false, ◌&&◌, List, length, take, drop}
 use Rattle.std.proofs.Math.Path.{refl, ap, subst}
 use Rattle.std.proofs.Common.{sym, ◌∙◌, arith, take_all, leb-true, leb-false}
 use Rattle.std.proofs.Math.Option.{Option}
@@ -10,9 +10,9 @@ use Rattle.net_file.specs.Values.{FlatNet, File}
 use Rattle.net_file.specs.Checks.{flat, read, write}
 use Rattle.net_file_laws.specs.Bytes.{Bytes}
 use Rattle.net_file_laws.proofs.RoundTrip.{flat_write_read}
-use Rattle.net_check.specs.Verdict.{verdict}
-use Rattle.net_check.specs.declared.Checked.TheVariants.{Accepted}
-use Rattle.net_check.specs.declared.Checked.TheVariants.{Refused as Checked-as-Refused}
+use Rattle.refusals.specs.Numbers.{by}
+use Rattle.refusals.specs.Told.{Numbered}
+use Rattle.net_check.specs.Verdict.{verdict, read_numbered}
 use Rattle.definitions.specs.State.{Pools, Engine}
 use Rattle.definitions.specs.Load.{load}
 use Rattle.definitions.specs.Calls
@@ -115,11 +115,11 @@ module _ (q : Lent.Pools) (ws bs s : List ℕ) (is : Bytes s) where
       → Outcomes none_told q ws bs (checked_file q ws bs s) (Begins (pools_of q) (length s) r)
   unfolding verdict
   checked_begins h l (refuse n) e =
-      subst (λ (x : Lent). Outcomes none_told q ws bs x (refuse n, unchanged)) (file_refused q ws bs s (Checked-as-Refused n) n (ap verdict (sym e)) refl) (refused n)
+      subst (λ (x : Lent). Outcomes none_told q ws bs x (refuse n, unchanged)) (file_refused q ws bs s (Err (by n)) (by n) n (ap verdict (sym e)) refl (sym (subst Numbered e (read_numbered flat s)))) (refused n)
   checked_begins h l (ok f) e =
       let x = load_file q ws bs s in
       subst (λ (y : Lent). Outcomes none_told q ws bs y (Loads (length s) f (load (pools_of q) f)))
-      (file_accepted q ws x.ws bs x.bs s Accepted x.is (ap verdict (sym e)) refl refl refl refl) (file_begins f e h l)
+      (file_accepted q ws x.ws bs x.bs s (Ok tt) x.is (ap verdict (sym e)) refl refl refl refl) (file_begins f e h l)
 
   -- 1
   all_begins : (t u : Bool) → room q ws ≡ t → leb (length s) (length bs) ≡ u → Outcomes none_told q ws bs (begin q ws bs s) (Begins (pools_of q) (length s) (need (t && u) 1 (read flat s)))

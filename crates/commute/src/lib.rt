@@ -14,12 +14,10 @@ fn row(p: Port) -> [u32; 15]
     ensures { result ≡ row p.0 }
 {
     let mut r = [0u32; 15];
-    let mut j: usize = 0;
     let mut q = p.0;
-    while j < 15 {
-        r[j] = q;
+    for place in &mut r {
+        *place = q;
         q = layout::next(q);
-        j += 1;
     }
     r
 }
@@ -30,12 +28,9 @@ fn link_column(ws: &mut [u32], grid: &[[u32; 15]; 15], p: Port, j: usize, k: usi
     ensures { ws.new ≡ link_column ws.old grid.now p.0 j 0 k }
 {
     let mut x = p;
-    let mut i: usize = 0;
-    while i < k {
-        let y = grid[i][j];
-        graph::link(ws, x, Port(y));
+    for i in 0..k {
+        graph::link(ws, x, Port(grid[i][j]));
         x = layout::next_port(x);
-        i += 1;
     }
 }
 
@@ -54,8 +49,7 @@ fn copy_across(ws: &mut [u32], a: Side, b: Side, grid: &[[u32; 15]; 15]) -> Trie
     ensures { (result ≡ (copy_across ws.old a grid.now b.aux.0 0 b.count).is) × (ws.new ≡ (copy_across ws.old a grid.now b.aux.0 0 b.count).ws) }
 {
     let mut port = b.aux;
-    let mut j: u32 = 0;
-    while j < b.count {
+    for j in 0..b.count {
         let placed = edits::insert_node(ws, a.net, a.name, layout::next(a.count));
         match placed {
             Placed::At(n) => {
@@ -66,7 +60,6 @@ fn copy_across(ws: &mut [u32], a: Side, b: Side, grid: &[[u32; 15]; 15]) -> Trie
             Placed::Refused(r) => return Tried::Refused(r),
         }
         port = layout::next_port(port);
-        j += 1;
     }
     Tried::Acted
 }
@@ -78,8 +71,7 @@ fn copy_both(ws: &mut [u32], a: Side, b: Side) -> Tried
 {
     let mut grid = [[0u32; 15]; 15];
     let mut port = a.aux;
-    let mut i: u32 = 0;
-    while i < a.count {
+    for i in 0..a.count {
         let placed = edits::insert_node(ws, b.net, b.name, layout::next(b.count));
         match placed {
             Placed::At(n) => {
@@ -90,7 +82,6 @@ fn copy_both(ws: &mut [u32], a: Side, b: Side) -> Tried
             Placed::Refused(r) => return Tried::Refused(r),
         }
         port = layout::next_port(port);
-        i += 1;
     }
     copy_across(ws, a, b, &grid)
 }

@@ -1,31 +1,30 @@
 -- What a conversion call answers and leaves, of what the definitions say of it; and each way out of a call.
 -- Document 01: "Conversions give 17 or 18 as met, then 15. A refusal returns its number and writes no output".
-use Rattle.std.specs.Prelude.{ℕ, ◌+◌, ◌≤◌, ◌<◌, min, Bool, true, false, List, [], ◌∷◌, ◌++◌, take, leb}
+use Rattle.std.specs.Prelude
+use Rattle.std.specs.Prelude.{Ok, Err, ℕ, ◌+◌, ◌≤◌, ◌<◌, min, Bool, true, false, List, [], ◌∷◌, ◌++◌, take, leb}
 use Rattle.std.proofs.Math.Path.{◌≡◌, refl, ap}
 use Rattle.std.proofs.Common.{sym, ◌∙◌}
 use native.Mathlib.Omega.{arith}
 use Rattle.std.proofs.Math.ListN.{length, drop}
 use Rattle.std.proofs.Math.Seq.{sets-eq}
 use borrow.Author.Tests.{le-leb, lt-leb}
-use Rattle.net_file.specs.Lists.{Result, ok, refuse, need}
+use Rattle.net_file.specs.Lists.{Result, ok, refuse}
 use Rattle.net_file.specs.Values.{File}
 use Rattle.net_file.specs.Checks.{Version, read, write}
 use Rattle.definitions.specs.Calls.{Left, unchanged, zeros, image, Outcome, written}
 use Rattle.conversions.specs.Convert.{◌>>=◌}
 use Rattle.conversions.specs.Calls.{convert, fitted, scratched}
-use Rattle.net_check.specs.Verdict.{verdict}
-use Rattle.net_check.specs.declared.Checked.{Checked}
-use Rattle.net_check.specs.declared.Checked.TheVariants.{Accepted}
-use Rattle.net_check.specs.declared.Checked.TheVariants.{Refused as Checked-as-Refused}
+use Rattle.refusals.specs.declared.Refusal.{Refusal}
+use Rattle.refusals.specs.declared.Refusal.TheVariants.{TooLittleLent, OutputTooShort}
+use Rattle.refusals.specs.Numbers.{number}
+use Rattle.refusals.specs.Told.{told, told_once}
+use Rattle.net_check.specs.Verdict.{Checked, verdict, read_numbered, was_read, was_refused}
 use Rattle.clear.specs.Zeroed.{zeroed}
 use Rattle.text_writers.specs.Wrote.{far, Wrote}
-use Rattle.convert_frame.specs.declared.Converted.{Converted}
-use Rattle.convert_frame.specs.declared.Converted.TheVariants.{Written, Refused}
 
--- document 01's value and number for each answer
-unfoldable pub answer_of : Converted → Result ℕ
-answer_of (Written n) = ok n
-answer_of (Refused r) = refuse r
+-- what a call answers: the length of its result, or by what it is refused
+abbrev pub Converted : Type 0
+Converted = Prelude.Result ℕ Refusal
 
 -- the documented length of the scratch, in words: the tables by wire, at most four
 abbrev pub scratch_words : ℕ
@@ -36,9 +35,9 @@ abbrev pub long : List ℕ → Bool
 long ws = leb scratch_words (length ws)
 
 -- the length of a result, or the number that it is refused by
-unfoldable pub answered : Result (List ℕ) → Converted
-answered (ok bs) = Written (length bs)
-answered (refuse r) = Refused r
+unfoldable pub answered : Result (List ℕ) → Result ℕ
+answered (ok bs) = ok (length bs)
+answered (refuse r) = refuse r
 
 -- the scratch as a call leaves it: zeros up to its documented length, or as it was; no call of these leaves an image
 unfoldable pub leaves : Left → List ℕ → List ℕ
@@ -48,13 +47,13 @@ leaves (image h) ws = ws
 
 -- the answer, every word of the scratch and every byte of the output
 pub record Called (o : Outcome (List ℕ)) (ws bs : List ℕ) (r : Converted) (ws' bs' : List ℕ) : Type 0 where
-  pub is : r ≡ answered o.0
+  pub is : told r ≡ answered o.0
   pub scratch : ws' ≡ leaves o.1 ws
   pub out : bs' ≡ written o.0 bs
 
 -- what a call determines
 pub called_once : {o : Outcome (List ℕ)} {ws bs w w' b b' : List ℕ} {r r' : Converted} → Called o ws bs r w b → Called o ws bs r' w' b' → (r ≡ r') × (w ≡ w') × (b ≡ b')
-called_once p q = (p.is ∙ sym q.is, p.scratch ∙ sym q.scratch, p.out ∙ sym q.out)
+called_once {r = r} {r' = r'} p q = (told_once r r' (p.is ∙ sym q.is), p.scratch ∙ sym q.scratch, p.out ∙ sym q.out)
 
 -- past 8 the scratch is zeros, whatever the answer
 abbrev pub Given : Result (List ℕ) → List ℕ → List ℕ → Converted → List ℕ → List ℕ → Type 0
@@ -67,7 +66,7 @@ module _ {A B : Type 0} (v : Version A) (w : Version B) (f : A → Result B) (bs
   on_read : Result (File A) → Outcome (List ℕ)
   on_read o = elim o [ refuse r ↦ (refuse r, unchanged) | ok x ↦ (convert f x >>= λ y. fitted (length out) (write w y), zeros (length bs)) ]
 
-  pub called_short : length ws < scratch_words → Called (scratched (long ws) v w f (length out) bs) ws out (Refused 1) ws out
+  pub called_short : length ws < scratch_words → Called (scratched (long ws) v w f (length out) bs) ws out (Err TooLittleLent) ws out
   unfolding scratched answered leaves written
   called_short h = let e = lt-leb scratch_words (length ws) h in rw e (record { is = refl; scratch = refl; out = refl })
 
@@ -76,26 +75,15 @@ module _ {A B : Type 0} (v : Version A) (w : Version B) (f : A → Result B) (bs
   unfolding scratched on_read
   said_of h e = ap (λ (t : Bool). scratched t v w f (length out) bs) (le-leb scratch_words (length ws) h) ∙ ap on_read e
 
-  unread : (c : Result (File A)) (r : ℕ) → Checked-as-Refused r ≡ verdict c → c ≡ refuse r
-  unfolding verdict
-  unread (ok x) r e = let z : ◌≡◌ {A = ℕ} 0 1 = cc in absurd (omega arith)
-  unread (refuse n) r e = let z : n ≡ r = cc in ap refuse z
-
-  pub called_unread : (c : Checked) (r : ℕ) → scratch_words ≤ length ws → c ≡ verdict (read v bs) → c ≡ Checked-as-Refused r
-      → Called (scratched (long ws) v w f (length out) bs) ws out (Refused r) ws out
+  pub called_unread : (c : Checked) (r : Refusal) → scratch_words ≤ length ws → c ≡ verdict (read v bs) → c ≡ Err r
+      → Called (scratched (long ws) v w f (length out) bs) ws out (Err r) ws out
   unfolding on_read answered leaves written
   called_unread c r h ec er =
-      let e = said_of h (unread (read v bs) r (sym er ∙ ec)) in
+      let e = said_of h (was_refused (read v bs) r (read_numbered v bs) (sym er ∙ ec)) in
       rw e (record { is = refl; scratch = refl; out = refl })
 
-  -- an accepted file was read
-  was_read : (c : Result (File A)) → Accepted ≡ verdict c → (x : File A) × (c ≡ ok x)
-  unfolding verdict
-  was_read (ok x) e = (x, refl)
-  was_read (refuse n) e = let z : ◌≡◌ {A = ℕ} 0 1 = cc in absurd (omega arith)
-
   -- what the definitions say of a file that is read, in other words
-  pub called_read : (c : Checked) (a : Result (List ℕ)) (r : Converted) (ws' out' : List ℕ) → scratch_words ≤ length ws → c ≡ verdict (read v bs) → c ≡ Accepted
+  pub called_read : (c : Checked) (a : Result (List ℕ)) (r : Converted) (ws' out' : List ℕ) → scratch_words ≤ length ws → c ≡ verdict (read v bs) → c ≡ Ok tt
       → ((x : File A) → read v bs ≡ ok x → (convert f x >>= λ y. fitted (length out) (write w y)) ≡ a) → Given a ws out r ws' out'
       → Called (scratched (long ws) v w f (length out) bs) ws out r ws' out'
   unfolding on_read leaves
@@ -107,7 +95,7 @@ module _ {A B : Type 0} (v : Version A) (w : Version B) (f : A → Result B) (bs
 -- ---- 15 or the result: n is the length that was found out, in a slice x of its own, of bytes that are as many
 
 module _ (bs cs x y ws out : List ℕ) (n : ℕ) (m : Wrote cs 0 x y n) (l : length cs ≡ length bs) where
-  pub given_full : (ws' : List ℕ) → length out < n → ws' ≡ zeroed scratch_words ws → Given (fitted (length out) bs) ws out (Refused 15) ws' out
+  pub given_full : (ws' : List ℕ) → length out < n → ws' ≡ zeroed scratch_words ws → Given (fitted (length out) bs) ws out (Err OutputTooShort) ws' out
   unfolding fitted answered leaves written
   given_full ws' h z =
       let k = m.is in
@@ -115,7 +103,7 @@ module _ (bs cs x y ws out : List ℕ) (n : ℕ) (m : Wrote cs 0 x y n) (l : len
       rw e (record { is = refl; scratch = z; out = refl })
 
   pub given_written : (ws' w : List ℕ) (r : ℕ) → n ≤ length out → length out < far → ws' ≡ zeroed scratch_words ws → Wrote bs 0 out w r
-      → Given (fitted (length out) bs) ws out (Written n) ws' w
+      → Given (fitted (length out) bs) ws out (Ok n) ws' w
   unfolding fitted answered leaves written
   given_written ws' w r h k z u =
       let j = m.is in
@@ -123,9 +111,9 @@ module _ (bs cs x y ws out : List ℕ) (n : ℕ) (m : Wrote cs 0 x y n) (l : len
       let s : n ≡ length bs = omega arith in
       let e = le-leb (length bs) (length out) (omega arith) in
       let o : 0 + length bs ≡ length bs = omega arith in
-      rw e (record { is = ap Written s; scratch = z; out = u.out ∙ sets-eq bs out 0 i ∙ ap (λ d. bs ++ drop d out) o })
+      rw e (record { is = ap ok s; scratch = z; out = u.out ∙ sets-eq bs out 0 i ∙ ap (λ d. bs ++ drop d out) o })
 
 -- a conversion that refuses
-pub given_refused : (r : ℕ) (ws ws' out : List ℕ) → ws' ≡ zeroed scratch_words ws → Given (refuse r) ws out (Refused r) ws' out
+pub given_refused : (r : Refusal) (ws ws' out : List ℕ) → ws' ≡ zeroed scratch_words ws → Given (refuse (number r)) ws out (Err r) ws' out
 unfolding answered leaves written
 given_refused r ws ws' out z = record { is = refl; scratch = z; out = refl }

@@ -1,17 +1,10 @@
-// What the conversion calls share: their answer, their scratch, and what a result begins with.
+// What the conversion calls share: their scratch, and what a result begins with.
 // A call writes its result twice: first into a slice of one byte, which tells its length, then into the output, if there is room.
 #![tactic(auto)]
 
 ghost use Rattle.std.specs.Prelude.{◌-◌, ◌%◌, ◌≡◌};
 ghost use Rattle.text_writers.specs.Wrote.{Wrote};
 ghost use Rattle.convert_frame.specs.Head.{head_bytes};
-
-// What a call answers: the length of its result, or the number by which it is refused.
-#[derive(Clone, Copy)]
-pub enum Converted {
-    Written(usize),
-    Refused(u32),
-}
 
 // The scratch that each of the four calls is lent, in words: the tables by wire, at most four.
 pub const SCRATCH: usize = 262144;
@@ -20,10 +13,7 @@ pub const SCRATCH: usize = 262144;
 fn following(length: usize) -> u32
     ensures { result ≡ (length - 4) % 4294967296 }
 {
-    if length < 4 {
-        return 0;
-    }
-    ((length - 4) % 4294967296) as u32
+    (length.saturating_sub(4) % 4294967296) as u32
 }
 
 // What a result of so many bytes begins with: its length, its version, what stands in the file from the limit up to the place of

@@ -1,6 +1,6 @@
 -- How many nodes n flat nets have, by offsets, and the loop that counts them up to 4,097.
-use Rattle.std.specs.Prelude.{ℕ, zero, suc, ◌+◌, ◌-◌, ◌<◌, ◌≤◌, min, ◌≡◌, refl, List}
-use Rattle.std.proofs.Common.{sym, ap, ◌∙◌, arith, sub-one, not-suc-le-zero}
+use Rattle.std.specs.Prelude.{ℕ, zero, suc, ◌+◌, ◌-◌, ◌<◌, ◌≤◌, min, ◌≡◌, List}
+use Rattle.std.proofs.Common.{◌∙◌, arith, sub-one, not-suc-le-zero}
 use Rattle.fields.specs.Fields.{be16}
 use Rattle.stored.specs.Stored.{node_count_at, flat_net_end}
 use Rattle.ends.specs.Ends.{within, next_net, next_is}

@@ -7,11 +7,7 @@ ghost use Rattle.count_flat.specs.Count.{net_nodes, nets_nodes};
 pub fn add(total: u32, more: u32) -> u32
     ensures { result ≡ min 4097 (total + more) }
 {
-    let sum = total as u64 + more as u64;
-    if 4097 < sum {
-        return 4097;
-    }
-    sum as u32
+    (total as u64 + more as u64).min(4097) as u32
 }
 
 // The nodes of one net.
@@ -27,12 +23,9 @@ pub fn nets_nodes(s: &[u8], from: usize, n: u32) -> u32
 {
     let mut at = from;
     let mut total: u32 = 0;
-    let mut k = n;
-    while 0 < k {
-        let more = net_nodes(s, at);
-        total = add(total, more as u32);
-        at = ends::next_net(s, at, k);
-        k -= 1;
+    for i in 0..n {
+        total = add(total, net_nodes(s, at) as u32);
+        at = ends::next_net(s, at, n - i);
     }
     total
 }

@@ -2,7 +2,6 @@
 use Rattle.std.specs.Prelude.{ℕ, suc, ◌+◌, ◌-◌, ◌<◌, ◌≤◌, ◌≡◌, List, Bool, true, false, set}
 use Rattle.std.proofs.Common.{arith}
 use Rattle.words.specs.Choose.{pick_true, pick_false, eq_yes, eq_no}
-use Rattle.words.specs.Left.{Left}
 use Rattle.layout.specs.Layout.{next, less, dirty_stale, dirty_capacity, net_word_words, set_net_word, node_word}
 use Rattle.graph.specs.Graph.{mark_dirty_words, fewer}
 use Rattle.pools.specs.Pools.{take_slot}

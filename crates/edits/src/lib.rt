@@ -127,10 +127,8 @@ pub fn finish_edit(ws: &mut [u32])
     ensures { ws.new ≡ finish_edit_words ws.old }
 {
     let dead = words::get(ws, layout::DEAD);
-    let mut i: u32 = 0;
-    while i < dead {
+    for i in 0..dead {
         remove_dead(ws, i);
-        i += 1;
     }
     words::put(ws, layout::DEAD, 0)
 }

@@ -165,12 +165,10 @@ pub fn embed_all(s: &[u8], out: &mut [u8], g: Growth, k: u32, d: u32) -> Growth
     ensures { (result ≡ walked_all s.now d g k) × (out.new ≡ written_all s.now d g k out.old) }
 {
     let mut x = g;
-    let mut left = k;
-    while 0 < left {
+    for _ in 0..k {
         let aux = x.aux;
         let t = embed(s, out, x, NEW, d);
         x = put_top(out, t, aux);
-        left -= 1;
     }
     x
 }

@@ -31,10 +31,8 @@ fn embed_links(s: &[u8], ws: &mut [u32], out: &mut [u8], g: Growth, k: u32) -> G
     ensures { (result ≡ links_walked s.now g k) × (ws.new ≡ links_hung s.now ws.old g k) × (out.new ≡ links_written s.now g k out.old) }
 {
     let mut x = g;
-    let mut left = k;
-    while 0 < left {
+    for _ in 0..k {
         x = embed_link(s, ws, out, x);
-        left -= 1;
     }
     x
 }

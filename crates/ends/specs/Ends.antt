@@ -1,10 +1,10 @@
 -- A place, or the end where the place is past it; and that each part ends after it begins.
 use Rattle.std.specs.Prelude.{ℕ, zero, suc, ◌+◌, ◌*◌, ◌-◌, ◌<◌, ◌≤◌, min, ◌≡◌, refl, List, length}
-use Rattle.std.proofs.Common.{sym, ap, ◌∙◌, sub-one, not-suc-le-zero}
+use Rattle.std.proofs.Common.{sym, ◌∙◌, sub-one, not-suc-le-zero}
 use native.Mathlib.Omega.{arith}
 use Rattle.std.proofs.Math.Decide.{dec_lt}
 use Rattle.words.specs.Choose.{if_lt, lt_yes}
-use Rattle.fields.specs.Fields.{byte, be16}
+use Rattle.fields.specs.Fields.{be16}
 use Rattle.stored.specs.Stored.{table_end, list_end, path_end, name_end, node_end, pair_count_at, node_count_at, flat_net_end}
 
 abbrev pub within : List ℕ → ℕ → ℕ

@@ -108,10 +108,8 @@ pub fn nodes_end(s: &[u8], from: usize, n: u32) -> usize
     ensures { result ≡ within s.now (table_end (node_end s.now) from n) }
 {
     let mut at = from;
-    let mut k = n;
-    while 0 < k {
+    for _ in 0..n {
         at = node_end(s, at);
-        k -= 1;
     }
     if s.len() < at {
         return s.len();

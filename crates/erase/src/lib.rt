@@ -14,15 +14,13 @@ fn erase_ports(ws: &mut [u32], t: NetId, name: u32, p: Port, k: u32) -> Tried
     ensures { (result ≡ (erase_ports ws.old t.0 name p.0 k).is) × (ws.new ≡ (erase_ports ws.old t.0 name p.0 k).ws) }
 {
     let mut port = p;
-    let mut left = k;
-    while 0 < left {
+    for _ in 0..k {
         let placed = edits::insert_node(ws, t, name, 1);
         match placed {
             Placed::At(n) => graph::link(ws, port, layout::principal(n)),
             Placed::Refused(r) => return Tried::Refused(r),
         }
         port = layout::next_port(port);
-        left -= 1;
     }
     Tried::Acted
 }

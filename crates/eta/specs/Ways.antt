@@ -1,8 +1,8 @@
 -- What a function of the crate leaves on each way out, and one turn of each loop, in the words of its tests and calls.
-use Rattle.std.specs.Prelude.{ℕ, zero, suc, ◌-◌, ◌<◌, ◌≤◌, Bool, true, false, ◌≡◌, refl, List}
+use Rattle.std.specs.Prelude.{ℕ, zero, suc, ◌-◌, ◌<◌, ◌≤◌, Bool, true, false, eqb, ◌≡◌, refl, List}
 use Rattle.std.proofs.Common.{◌∙◌, not-suc-le-zero, sub-one}
-use Rattle.words.specs.Choose.{eq_yes, eq_no, pick_true, pick_false}
-use Rattle.words.specs.Left.{Left, whole}
+use Rattle.words.specs.Choose.{if_eq, eq_yes, eq_no, pick_true, pick_false}
+use Rattle.words.specs.Left.{whole}
 use Rattle.layout.specs.Layout.{next, less, across, is_principal_words}
 use Rattle.graph.specs.Graph.{remove_wire}
 use Rattle.node_names.specs.Names.{same_name_words}
@@ -31,14 +31,14 @@ pub nils_more_ports : (ws file sets : List ℕ) (r p q m k : ℕ) → m ≡ meet
 unfolding nils
 nils_more_ports ws file sets r p q m k em ek e = rw (← em) (eq_no _ _ _ _ (λ h. e (rw ek h)) refl)
 
-pub straight_wire : (ws file sets : List ℕ) (r p q x : ℕ) → x ≡ across ws p → x ≡ q → true ≡ straight ws file sets r p q
-unfolding straight
-straight_wire ws file sets r p q x ex e = eq_yes _ _ _ _ (rw (← ex) e) refl
+pub straight_wire : (ws file sets : List ℕ) (r p q x : ℕ) (s : Bool) → x ≡ across ws p → s ≡ eqb x q → s ≡ true → true ≡ straight ws file sets r p q
+unfolding straight if_eq
+straight_wire ws file sets r p q x s ex es e = pick_true _ _ _ (rw (← ex, ← es) e) refl
 
-pub straight_nils : (ws file sets : List ℕ) (r p q x : ℕ) (b : Bool) → x ≡ across ws p → (x ≡ q → ⊥) → b ≡ nils ws file sets r p q
+pub straight_nils : (ws file sets : List ℕ) (r p q x : ℕ) (s b : Bool) → x ≡ across ws p → s ≡ eqb x q → s ≡ false → b ≡ nils ws file sets r p q
     → b ≡ straight ws file sets r p q
-unfolding straight
-straight_nils ws file sets r p q x b ex e eb = eq_no _ _ _ _ (λ h. e (rw ex h)) eb
+unfolding straight if_eq
+straight_nils ws file sets r p q x s b ex es e eb = pick_false _ _ _ (rw (← ex, ← es) e) eb
 
 pub all_straight_more : (ws file sets : List ℕ) (r p q p' q' k : ℕ) (b x : Bool) → all_straight ws file sets r p q k ≡ x → 0 < k → b ≡ straight ws file sets r p q
     → b ≡ true → p' ≡ next p → q' ≡ next q → all_straight ws file sets r p' q' (k - 1) ≡ x
@@ -58,13 +58,14 @@ unfolding all_straight
 all_straight_done ws file sets r p q zero x e h = e
 all_straight_done ws file sets r p q (suc k) x e h = absurd (not-suc-le-zero h)
 
-pub drop_wire : (ws w : List ℕ) (p q x : ℕ) → x ≡ across ws p → x ≡ q → w ≡ remove_wire ws p q → w ≡ drop_straight ws p q
-unfolding drop_straight
-drop_wire ws w p q x ex e ew = eq_yes _ _ _ _ (rw (← ex) e) ew
+pub drop_wire : (ws w : List ℕ) (p q x : ℕ) (s : Bool) → x ≡ across ws p → s ≡ eqb x q → s ≡ true → w ≡ remove_wire ws p q → w ≡ drop_straight ws p q
+unfolding drop_straight if_eq
+drop_wire ws w p q x s ex es e ew = pick_true _ _ _ (rw (← ex, ← es) e) ew
 
-pub drop_nils : (ws w y : List ℕ) (p q x : ℕ) → x ≡ across ws p → (x ≡ q → ⊥) → w ≡ drop_value ws p → y ≡ drop_value w q → y ≡ drop_straight ws p q
-unfolding drop_straight
-drop_nils ws w y p q x ex e ew ey = eq_no _ _ _ _ (λ h. e (rw ex h)) (rw (← ew) ey)
+pub drop_nils : (ws w y : List ℕ) (p q x : ℕ) (s : Bool) → x ≡ across ws p → s ≡ eqb x q → s ≡ false → w ≡ drop_value ws p → y ≡ drop_value w q
+    → y ≡ drop_straight ws p q
+unfolding drop_straight if_eq
+drop_nils ws w y p q x s ex es e ew ey = pick_false _ _ _ (rw (← ex, ← es) e) (rw (← ew) ey)
 
 pub drop_straight_more : (ws w : List ℕ) (p q p' q' k : ℕ) (x : List ℕ) → drop_all_straight ws p q k ≡ x → 0 < k → w ≡ drop_straight ws p q → p' ≡ next p
     → q' ≡ next q → drop_all_straight w p' q' (k - 1) ≡ x

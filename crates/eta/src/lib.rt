@@ -29,7 +29,7 @@ fn nils(ws: &[u32], file: &[u8], sets: &[u64], r: u32, p: Port, q: Port) -> bool
 fn straight(ws: &[u32], file: &[u8], sets: &[u64], r: u32, p: Port, q: Port) -> bool
     ensures { result ≡ straight ws.now file.now sets.now r p.0 q.0 }
 {
-    if layout::across(ws, p).0 == q.0 {
+    if layout::across(ws, p) == q {
         return true;
     }
     nils(ws, file, sets, r, p, q)
@@ -40,15 +40,12 @@ fn all_straight(ws: &[u32], file: &[u8], sets: &[u64], r: u32, p: Port, q: Port,
 {
     let mut x = p;
     let mut y = q;
-    let mut left = k;
-    while 0 < left {
-        if straight(ws, file, sets, r, x, y) {
-            x = layout::next_port(x);
-            y = layout::next_port(y);
-            left -= 1;
-        } else {
+    for _ in 0..k {
+        if !straight(ws, file, sets, r, x, y) {
             return false;
         }
+        x = layout::next_port(x);
+        y = layout::next_port(y);
     }
     true
 }
@@ -57,7 +54,7 @@ fn all_straight(ws: &[u32], file: &[u8], sets: &[u64], r: u32, p: Port, q: Port,
 fn drop_straight(ws: &mut [u32], p: Port, q: Port)
     ensures { ws.new ≡ drop_straight ws.old p.0 q.0 }
 {
-    if layout::across(ws, p).0 == q.0 {
+    if layout::across(ws, p) == q {
         graph::remove_wire(ws, p, q);
         return;
     }
@@ -70,12 +67,10 @@ fn drop_all_straight(ws: &mut [u32], p: Port, q: Port, k: u32)
 {
     let mut x = p;
     let mut y = q;
-    let mut left = k;
-    while 0 < left {
+    for _ in 0..k {
         drop_straight(ws, x, y);
         x = layout::next_port(x);
         y = layout::next_port(y);
-        left -= 1;
     }
 }
 
@@ -137,14 +132,11 @@ fn odd_port(ws: &[u32], p: Port, k: u32) -> Port
     ensures { result.0 ≡ odd_port ws.now p.0 k }
 {
     let mut q = p;
-    let mut left = k;
-    while 0 < left {
-        if layout::is_principal(layout::across(ws, q)) {
-            q = layout::next_port(q);
-            left -= 1;
-        } else {
+    for _ in 0..k {
+        if !layout::is_principal(layout::across(ws, q)) {
             return q;
         }
+        q = layout::next_port(q);
     }
     Port(0)
 }

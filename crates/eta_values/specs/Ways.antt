@@ -2,7 +2,7 @@
 use Rattle.std.specs.Prelude.{ℕ, zero, suc, ◌-◌, ◌<◌, ◌≤◌, Bool, true, false, ◌≡◌, refl, List}
 use Rattle.std.proofs.Common.{◌∙◌, not-suc-le-zero, sub-one}
 use Rattle.words.specs.Choose.{eq_yes, eq_no, pick_true, pick_false}
-use Rattle.words.specs.Left.{Left, whole}
+use Rattle.words.specs.Left.{whole}
 use Rattle.layout.specs.Layout.{next, principal}
 use Rattle.graph.specs.Graph.{link}
 use Rattle.edits.specs.Edits.{on_placed, insert_node}

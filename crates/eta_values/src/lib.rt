@@ -38,14 +38,11 @@ fn all_values(ws: &[u32], file: &[u8], p: Port, k: u32, name: u32) -> bool
     ensures { result ≡ all_values ws.now file.now p.0 k name }
 {
     let mut q = p;
-    let mut left = k;
-    while 0 < left {
-        if is_value(ws, file, meets(ws, q), name) {
-            q = layout::next_port(q);
-            left -= 1;
-        } else {
+    for _ in 0..k {
+        if !is_value(ws, file, meets(ws, q), name) {
             return false;
         }
+        q = layout::next_port(q);
     }
     true
 }
@@ -63,11 +60,9 @@ fn drop_values(ws: &mut [u32], p: Port, k: u32)
     ensures { ws.new ≡ drop_values ws.old p.0 k }
 {
     let mut q = p;
-    let mut left = k;
-    while 0 < left {
+    for _ in 0..k {
         drop_value(ws, q);
         q = layout::next_port(q);
-        left -= 1;
     }
 }
 

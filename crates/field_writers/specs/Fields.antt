@@ -1,9 +1,9 @@
 -- Each way out of the writers of fields: the parts of a field, written one after another, are what net_file writes for it.
 use Prim.Native.Nat.{ℕ, zero, suc, ◌+◌, ◌*◌, ◌-◌, ◌/◌, ◌%◌, ◌≤◌, ◌<◌}
 use Rattle.std.proofs.Math.Path.{◌≡◌, refl}
-use Rattle.std.proofs.Common.{sym, ap, ◌∙◌, not-suc-le-zero, div-one, add-one, drop_of_length-le, eq-eqb, ne_eqb}
-use Rattle.std.specs.Prelude.{Bool, true, false, length, get_or, take, drop, eqb}
-use mathlib.Core.List.{List, [], ◌∷◌, ◌++◌, append_assoc}
+use Rattle.std.proofs.Common.{sym, ap, ◌∙◌, not-suc-le-zero, div-one, add-one, drop_of_length-le, length-drop, take_all, eq-eqb, ne_eqb}
+use Rattle.std.specs.Prelude.{Bool, length, get_or, take, drop, eqb}
+use mathlib.Core.List.{List, [], ◌∷◌, ◌++◌}
 use native.Mathlib.Omega.{arith}
 use Rattle.std.proofs.Math.Decide.{dec_lt}
 use Rattle.std.proofs.Math.Numerals.{unary_clauses}
@@ -12,11 +12,11 @@ use Rattle.net_file.specs.Lists.{bit, concat_map}
 use Rattle.net_file.specs.Write.{be, counted, write_name, write_head}
 use Rattle.fields.specs.Fields.{byte, be16, be32, be64}
 use Rattle.stored.specs.Stored.{table_at, numbers_at, list_at, name_at}
-use Rattle.ends.specs.Ends.{within, on}
+use Rattle.ends.specs.Ends.{on}
 use Rattle.readers_laws.specs.Tables.{list_length, list_clamped}
 use Rattle.readers.specs.Places.{byte_clamped}
 use Rattle.put.specs.Written.{part}
-use Rattle.text_writers.specs.Wrote.{far, Wrote, then, nothing, wrote_as, Still, still_on, still_none}
+use Rattle.text_writers.specs.Wrote.{far, Wrote, then, wrote_as, Still, still_all, still_on, still_none}
 
 -- ---- numbers
 
@@ -106,6 +106,20 @@ module _ (s : List ℕ) (to i : ℕ) where
       | yes l ↦ still_none st (part_past (omega arith))
       | no l ↦ still_none st (part_none (omega arith))
     ]
+
+-- the same copied
+module _ (s : List ℕ) (from to end at : ℕ) (out : List ℕ) (e : end ≡ on s to 0) where
+  pub bytes_none : end ≤ from → at ≤ far → length out ≤ far → Wrote (part s from (to - from)) at out out at
+  bytes_none h f l = bytes_done s to from at at end out out (part s from (to - from)) e (still_all f l) h
+
+  pub bytes_copied : (r : ℕ) (w : List ℕ) → from < end → Wrote (take (end - from) (drop from s)) at out w r → Wrote (part s from (to - from)) at out w r
+  unfolding part
+  bytes_copied r w h t =
+      let l = length-drop from s in
+      elim (dec_lt (length s) to) [
+        | yes k ↦ wrote_as (take_all (end - from) (drop from s) (omega arith) ∙ sym (take_all (to - from) (drop from s) (omega arith))) t
+        | no k ↦ let d : end ≡ to = omega arith in wrote_as (rw d) t
+      ]
 
 -- ---- a list of numbers
 

@@ -23,22 +23,19 @@ pub fn one(out: &mut [u8], at: usize, v: u8) -> usize
 pub fn two(out: &mut [u8], at: usize, v: u16) -> usize
     ensures { Wrote (be 2 v) at out.old out.new result }
 {
-    let p = text_writers::byte(out, at, (v / 256 % 256) as u8);
-    text_writers::byte(out, p, (v % 256) as u8)
+    text_writers::word(out, at, &u16::to_be_bytes(v))
 }
 
 pub fn four(out: &mut [u8], at: usize, v: u32) -> usize
     ensures { Wrote (be 4 v) at out.old out.new result }
 {
-    let p = two(out, at, (v / 65536 % 65536) as u16);
-    two(out, p, (v % 65536) as u16)
+    text_writers::word(out, at, &u32::to_be_bytes(v))
 }
 
 pub fn eight(out: &mut [u8], at: usize, v: u64) -> usize
     ensures { Wrote (be 8 v) at out.old out.new result }
 {
-    let p = four(out, at, (v / 4294967296 % 4294967296) as u32);
-    four(out, p, (v % 4294967296) as u32)
+    text_writers::word(out, at, &u64::to_be_bytes(v))
 }
 
 // ---- what stands in a file
@@ -47,15 +44,11 @@ pub fn eight(out: &mut [u8], at: usize, v: u64) -> usize
 pub fn bytes(out: &mut [u8], at: usize, s: &[u8], from: usize, to: usize) -> usize
     ensures { Wrote (part s.now from (to - from)) at out.old out.new result }
 {
-    let mut p = at;
-    let mut i = from;
     let end = ends::on(s, to, 0);
-    while i < end {
-        let b = s[i];
-        p = text_writers::byte(out, p, b);
-        i += 1;
+    if end <= from {
+        return at;
     }
-    p
+    text_writers::word(out, at, &s[from..end])
 }
 
 // As many numbers of two bytes as are said, after a count of one byte.
@@ -63,13 +56,9 @@ fn numbers(out: &mut [u8], at: usize, s: &[u8], from: usize, n: u8) -> usize
     ensures { Wrote (numbers_from s.now from 0 n) at out.old out.new result }
 {
     let mut p = at;
-    let mut j: u32 = 0;
-    let mut k = n;
-    while 0 < k {
+    for j in 0..n {
         let v = readers::be16_on(s, from, 1 + 2 * (j as usize));
         p = two(out, p, v);
-        j += 1;
-        k -= 1;
     }
     p
 }
@@ -95,10 +84,7 @@ pub fn name(out: &mut [u8], at: usize, s: &[u8], from: usize) -> usize
 fn mark(out: &mut [u8], at: usize, s: &[u8], from: usize) -> usize
     ensures { Wrote (be 1 (bit (eqb (byte s.now from) 1))) at out.old out.new result }
 {
-    if fields::byte(s, from) == 1 {
-        return one(out, at, 1);
-    }
-    one(out, at, 0)
+    one(out, at, (fields::byte(s, from) == 1) as u8)
 }
 
 // What a net of either kind begins with: name number, included, wire counter.

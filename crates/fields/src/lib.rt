@@ -10,18 +10,6 @@ pub fn byte(s: &[u8], at: usize) -> u8
     if at < s.len() { s[at] } else { 0 }
 }
 
-fn wide16(x: u8) -> u16
-    ensures { (result ≡ x) × (result < 256) }
-{
-    x as u16
-}
-
-fn wide32(x: u8) -> u32
-    ensures { (result ≡ x) × (result < 256) }
-{
-    x as u32
-}
-
 pub fn be16(s: &[u8], at: usize) -> u16
     ensures { result ≡ be16 s.now at }
 {
@@ -32,7 +20,7 @@ pub fn be16(s: &[u8], at: usize) -> u16
     if n - at < 2 {
         return 256 * (byte(s, at) as u16);
     }
-    256 * wide16(s[at]) + wide16(s[at + 1])
+    u16::from_be_bytes([s[at], s[at + 1]])
 }
 
 pub fn be32(s: &[u8], at: usize) -> u32
@@ -45,10 +33,7 @@ pub fn be32(s: &[u8], at: usize) -> u32
     if n - at < 4 {
         return be32_short(s, at);
     }
-    16777216 * wide32(s[at])
-        + 65536 * wide32(s[at + 1])
-        + 256 * wide32(s[at + 2])
-        + wide32(s[at + 3])
+    u32::from_be_bytes([s[at], s[at + 1], s[at + 2], s[at + 3]])
 }
 
 // Where the slice ends within the number.

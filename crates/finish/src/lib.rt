@@ -94,11 +94,9 @@ fn write_nets(
 {
     let mut place = from;
     let mut at = to;
-    let mut left = count;
-    while 0 < left {
+    for i in 0..count {
         at = write_net(ws, file, out, place, at);
-        place = ends::next_net(file, place, left);
-        left -= 1;
+        place = ends::next_net(file, place, count - i);
     }
     at
 }

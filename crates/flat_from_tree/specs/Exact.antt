@@ -1,6 +1,6 @@
 -- What the call answers and leaves is what the definitions say: on an accepted file 18 where a net needs wire 65,536, else 15 or
 -- `write` of the file with each net made flat.
-use Rattle.std.specs.Prelude.{ℕ, suc, ◌+◌, ◌-◌, ◌<◌, ◌≤◌, min, ◌≡◌, List, [], ◌∷◌, ◌++◌, map, get_or}
+use Rattle.std.specs.Prelude.{Ok, Err, ℕ, suc, ◌+◌, ◌-◌, ◌<◌, ◌≤◌, min, ◌≡◌, List, [], ◌∷◌, ◌++◌, map, get_or}
 use Rattle.std.proofs.Math.Path.{refl, sym, ap}
 use Rattle.std.proofs.Common.{◌∙◌, subst}
 use native.Mathlib.Omega.{arith}
@@ -28,14 +28,12 @@ use Rattle.readers_laws.specs.Reads.{read_inside}
 use Rattle.put.specs.Fields.{size_part}
 use Rattle.clear.specs.Zeroed.{zeroed}
 use Rattle.text_writers.specs.Wrote.{far, Wrote}
-use Rattle.net_check.specs.Verdict.{verdict}
-use Rattle.net_check.specs.declared.Checked.{Checked}
-use Rattle.net_check.specs.declared.Checked.TheVariants.{Accepted}
-use Rattle.net_check.specs.declared.Checked.TheVariants.{Refused as Checked-as-Refused}
+use Rattle.refusals.specs.declared.Refusal.{Refusal}
+use Rattle.refusals.specs.declared.Refusal.TheVariants.{TooLittleLent, TooManyWires}
+use Rattle.net_check.specs.Verdict.{Checked, verdict, was_read}
 use Rattle.convert_laws.specs.Tables.{count_later, count_inside}
 use Rattle.convert_laws.specs.Frame.{with_nets, framed, convert_done, convert_stops, nets_stand, frame_written}
-use Rattle.convert_frame.specs.declared.Converted.{Converted}
-use Rattle.convert_frame.specs.declared.Converted.TheVariants.{Refused}
+use Rattle.convert_frame.specs.Called.{Converted}
 use Rattle.convert_frame.specs.Head.{head_bytes, head_length, head_framed}
 use Rattle.convert_frame.specs.Called.{scratch_words, long, Called, Given, called_short, called_unread, called_read, given_full, given_written, given_refused}
 use Rattle.embed_laws.specs.Nets.{flat_of}
@@ -200,7 +198,7 @@ module _ (s ws : List ℕ) (b : Bytes s) (short : length s ≤ far) (l : scratch
         let w = total_left s ws in
         given_as (sym (said_over (length out) h)) (answer_over s ws w out (total s ws) (length out) refl refl h)
         (left_over s ws w out (total s ws) (length out) refl refl (zeroed scratch_words w) h refl) (out_over s ws w out (total s ws) (length out) refl refl h)
-        (given_refused 18 ws (zeroed scratch_words w) out left_kept)
+        (given_refused TooManyWires ws (zeroed scratch_words w) out left_kept)
 
     module _ (h : (total s ws).wires ≤ 65536) where
       length_told : Wrote result 0 [] [] (total s ws).to
@@ -232,12 +230,6 @@ module _ (s ws : List ℕ) (b : Bytes s) (short : length s ≤ far) (l : scratch
 
 -- ---- the ways out of the call
 
--- an accepted file was read
-was_read : (s : List ℕ) (r : Result (File TreeNet)) → Accepted ≡ verdict r → (x : File TreeNet) × (r ≡ ok x)
-unfolding verdict
-was_read s (ok x) e = (x, refl)
-was_read s (refuse n) e = let z : ◌≡◌ {A = ℕ} 0 1 = cc in absurd (omega arith)
-
 -- two answers that are the same have the same value
 same_file : {x y : File TreeNet} → ◌≡◌ {A = Result (File TreeNet)} (ok x) (ok y) → x ≡ y
 same_file {x} {y} e = ap (λ o. value o) e
@@ -247,21 +239,21 @@ same_file {x} {y} e = ap (λ o. value o) e
     value (refuse n) = x
 
 module _ (s ws out : List ℕ) where
-  pub call_short : length ws < scratch_words → Called (to_flat_call (long ws) (length out) s) ws out (Refused 1) ws out
+  pub call_short : length ws < scratch_words → Called (to_flat_call (long ws) (length out) s) ws out (Err TooLittleLent) ws out
   unfolding to_flat_call
   call_short h = called_short tree flat to_flat s ws out h
 
-  pub call_unread : (c : Checked) (r : ℕ) → scratch_words ≤ length ws → c ≡ verdict (read tree s) → c ≡ Checked-as-Refused r
-      → Called (to_flat_call (long ws) (length out) s) ws out (Refused r) ws out
+  pub call_unread : (c : Checked) (r : Refusal) → scratch_words ≤ length ws → c ≡ verdict (read tree s) → c ≡ Err r
+      → Called (to_flat_call (long ws) (length out) s) ws out (Err r) ws out
   unfolding to_flat_call
   call_unread c r h ec er = called_unread tree flat to_flat s ws out c r h ec er
 
-  pub call_read : (b : (i : ℕ) → get_or s i 0 < 256) → length s ≤ far → length out < far → (c : Checked) (r : Converted) (ws' out' : List ℕ) → scratch_words ≤ length ws → c ≡ verdict (read tree s) → c ≡ Accepted
+  pub call_read : (b : (i : ℕ) → get_or s i 0 < 256) → length s ≤ far → length out < far → (c : Checked) (r : Converted) (ws' out' : List ℕ) → scratch_words ≤ length ws → c ≡ verdict (read tree s) → c ≡ Ok tt
       → r ≡ flat_answer s ws (length out) → ws' ≡ flat_left s ws (length out) → out' ≡ flat_out s ws out
       → Called (to_flat_call (long ws) (length out) s) ws out r ws' out'
   unfolding to_flat_call
   call_read b short roomy c r ws' out' h ec ea er ew eo =
-      let y = was_read s (read tree s) (sym ea ∙ ec) in
+      let y = was_read (read tree s) (sym ea ∙ ec) in
       called_read tree flat to_flat s ws out c (said s ws b short h y.0 y.1 (length out)) r ws' out' h ec ea
       (λ x e. ap (λ (z : File TreeNet). convert to_flat z >>= λ f. fitted (length out) (write flat f)) (same_file (sym e ∙ y.1)))
       (given_as refl (sym er) (sym ew) (sym eo) (given_flat s ws b short h y.0 y.1 out roomy))

@@ -1,5 +1,5 @@
 -- The call past its checks, by what stands in the file: what it answers, and what it leaves. Level Words.
-use Rattle.std.specs.Prelude.{ℕ, ◌<◌, ◌≤◌, ◌≡◌, refl, List, length}
+use Rattle.std.specs.Prelude.{Ok, Err, ℕ, ◌<◌, ◌≤◌, ◌≡◌, refl, List, length}
 use Rattle.std.proofs.Common.{◌∙◌}
 use Rattle.std.proofs.lemmas.List.Edits.{sets}
 use Rattle.words.specs.Choose.{if_lt, lt_yes, lt_no}
@@ -8,8 +8,8 @@ use Rattle.stored.specs.Stored.{net_count_at}
 use Rattle.ends.specs.Ends.{within, on}
 use Rattle.clear.specs.Zeroed.{zeroed}
 use Rattle.text_writers.specs.Wrote.{Wrote}
-use Rattle.convert_frame.specs.declared.Converted.{Converted}
-use Rattle.convert_frame.specs.declared.Converted.TheVariants.{Written, Refused}
+use Rattle.refusals.specs.declared.Refusal.TheVariants.{OutputTooShort, TooManyWires}
+use Rattle.convert_frame.specs.Called.{Converted}
 use Rattle.convert_frame.specs.Head.{head_bytes}
 use Rattle.convert_frame.specs.Called.{scratch_words}
 use Rattle.flat_nets.specs.declared.Total.{Total}
@@ -42,7 +42,7 @@ module _ (s : List ℕ) where
 
   -- 18, then 15, then the result
   unfoldable pub flat_answer : List ℕ → ℕ → Converted
-  flat_answer ws room = let t = total ws in if_lt 65536 t.wires (Refused 18) (if_lt room t.to (Refused 15) (Written t.to))
+  flat_answer ws room = let t = total ws in if_lt 65536 t.wires (Err TooManyWires) (if_lt room t.to (Err OutputTooShort) (Ok t.to))
 
   unfoldable pub flat_left : List ℕ → ℕ → List ℕ
   flat_left ws room =
@@ -63,7 +63,7 @@ module _ (s : List ℕ) where
   whole_out_lem ws out o x q a k n p eq ea ek h ex = ex ∙ rw (h.out, ek, ea, eq)
 
   module _ (ws w out : List ℕ) (t : Total) (room : ℕ) (et : t ≡ total ws) (ew : w ≡ total_left ws) where
-    pub answer_over : 65536 < t.wires → Refused 18 ≡ flat_answer ws room
+    pub answer_over : 65536 < t.wires → Err TooManyWires ≡ flat_answer ws room
     unfolding flat_answer
     answer_over h = rw (← et) (lt_yes _ _ _ _ h refl)
 
@@ -75,7 +75,7 @@ module _ (s : List ℕ) where
     unfolding flat_out
     out_over h = rw (← et) (lt_yes _ _ _ _ h refl)
 
-    pub answer_full : t.wires ≤ 65536 → room < t.to → Refused 15 ≡ flat_answer ws room
+    pub answer_full : t.wires ≤ 65536 → room < t.to → Err OutputTooShort ≡ flat_answer ws room
     unfolding flat_answer
     answer_full h k = rw (← et) (lt_no _ _ _ _ h (lt_yes _ _ _ _ k refl))
 
@@ -87,7 +87,7 @@ module _ (s : List ℕ) where
     unfolding flat_out
     out_full h k = rw (← et) (lt_no _ _ _ _ h (lt_yes _ _ _ _ k refl))
 
-    pub answer_done : t.wires ≤ 65536 → t.to ≤ room → Written t.to ≡ flat_answer ws room
+    pub answer_done : t.wires ≤ 65536 → t.to ≤ room → Ok t.to ≡ flat_answer ws room
     unfolding flat_answer
     answer_done h k = rw (← et) (lt_no _ _ _ _ h (lt_no _ _ _ _ k refl))
 

@@ -6,9 +6,8 @@ ghost use Rattle.conversions.specs.Calls.{to_flat_call};
 ghost use Rattle.convert_frame.specs.Called.{long, Called};
 ghost use Rattle.flat_from_tree.specs.Words.{total, total_left, whole_out, whole_left, flat_answer, flat_left, flat_out};
 
-use convert_frame::Converted;
 use flat_nets::{Spot, Total};
-use net_check::Checked;
+use refusals::Refusal;
 
 // The nets measured, with a table without links at first, as it is then too: the greatest wire counter among them, and how long the result is.
 fn measure(s: &[u8], ws: &mut [u32]) -> Total
@@ -33,32 +32,29 @@ fn write(s: &[u8], ws: &mut [u32], out: &mut [u8], length: usize)
 }
 
 // An accepted file: 18, then 15, then the result.
-fn accepted(s: &[u8], ws: &mut [u32], out: &mut [u8]) -> Converted
+fn accepted(s: &[u8], ws: &mut [u32], out: &mut [u8]) -> Result<usize, Refusal>
     ensures { (result ≡ flat_answer s.now ws.old (length out.old)) × (ws.new ≡ flat_left s.now ws.old (length out.old)) × (out.new ≡ flat_out s.now ws.old out.old) }
 {
     let t = measure(s, ws);
     if 65536 < t.wires {
         clear::clear_words(ws, convert_frame::SCRATCH);
-        return Converted::Refused(18);
+        return Err(Refusal::TooManyWires);
     }
     if out.len() < t.to {
         clear::clear_words(ws, convert_frame::SCRATCH);
-        return Converted::Refused(15);
+        return Err(Refusal::OutputTooShort);
     }
     write(s, ws, out, t.to);
     clear::clear_words(ws, convert_frame::SCRATCH);
-    Converted::Written(t.to)
+    Ok(t.to)
 }
 
-pub fn flat_from_tree(file: &[u8], scratch: &mut [u32], out: &mut [u8]) -> Converted
+pub fn flat_from_tree(file: &[u8], scratch: &mut [u32], out: &mut [u8]) -> Result<usize, Refusal>
     ensures { Called (to_flat_call (long scratch.old) (length out.old) file.now) scratch.old out.old result scratch.new out.new }
 {
     if scratch.len() < convert_frame::SCRATCH {
-        return Converted::Refused(1);
+        return Err(Refusal::TooLittleLent);
     }
-    let checked = net_check::check_tree(file);
-    match checked {
-        Checked::Accepted => accepted(file, scratch, out),
-        Checked::Refused(r) => Converted::Refused(r as u32),
-    }
+    net_check::check_tree(file)?;
+    accepted(file, scratch, out)
 }

@@ -1,11 +1,11 @@
 -- The ways out, and the turns and ends of the loops over nets.
 use Prim.Native.Nat.{ℕ, zero, suc, ◌+◌, ◌-◌, ◌/◌, ◌<◌, ◌≤◌}
-use Rattle.std.specs.Prelude.{◌≡◌, true, false, length, get_or, set, eqb}
+use borrow.Rule.Slice.PartMut.{put_mid}
+use Rattle.std.specs.Prelude.{◌≡◌, length, get_or, set, eqb}
 use Rattle.std.proofs.Math.Path.{refl, sym, ap}
-use Rattle.std.proofs.Common.{◌∙◌, arith, sub-one, not-suc-le-zero, length-set, get_or-set_other, eq-eqb, ne_eqb}
-use mathlib.Core.List.{List, ◌++◌}
-use Rattle.std.proofs.Math.Decide.{dec_lt}
-use Rattle.std.proofs.Math.Seq.{set_out}
+use Rattle.std.proofs.Common.{◌∙◌, arith, sub-one, not-suc-le-zero, min, take, drop, replicate, length-drop, get_or-set_other, eq-eqb, ne_eqb}
+use Rattle.std.proofs.lemmas.List.{take_min, drop_min}
+use mathlib.Core.List.{List, [], ◌∷◌, ◌++◌}
 use Rattle.net_file.specs.Lists.{bit}
 use Rattle.net_file.specs.Write.{be, write_head}
 use Rattle.fields.specs.Fields.{byte, be16}
@@ -21,37 +21,32 @@ use Rattle.flat_nets.specs.Flat.{zero_from, empty_over, measured, passed, size, 
 
 -- ---- the table without links again
 
-pub fill_more : (to i : ℕ) (ws x : List ℕ) → zero_from i (to - i) ws ≡ x → i < to → zero_from (i + 1) (to - (i + 1)) (set ws i 0) ≡ x
-unfolding zero_from
-fill_more to i ws x e h =
-    let j : to - i ≡ suc (to - (i + 1)) = omega arith in
-    let k : i + 1 ≡ suc i = omega arith in
-    ap (λ (a : ℕ). zero_from a (to - (i + 1)) (set ws i 0)) k ∙ sym (ap (λ (n : ℕ). zero_from i n ws) j) ∙ e
-
-pub fill_done : (to i : ℕ) (ws x : List ℕ) → zero_from i (to - i) ws ≡ x → to ≤ i → ws ≡ x
-unfolding zero_from
-fill_done to i ws x e h = let j : to - i ≡ 0 = omega arith in sym (ap (λ (n : ℕ). zero_from i n ws) j) ∙ e
-
 -- past the end nothing is changed
-zero_clipped : (n i l : ℕ) (ws : List ℕ) → length ws ≡ l → l ≤ i + n → zero_from i (l - i) ws ≡ zero_from i n ws
+zero_nothing : (n i : ℕ) → zero_from i n [] ≡ []
 unfolding zero_from
-zero_clipped zero i l ws e h = let j : l - i ≡ 0 = omega arith in ap (λ (k : ℕ). zero_from i k ws) j
-zero_clipped (suc n) i l ws e h = elim (dec_lt i l) [
-  | yes k ↦
-      let j : l - i ≡ suc (l - suc i) = omega arith in
-      ap (λ (m : ℕ). zero_from i m ws) j ∙ zero_clipped n (suc i) l (set ws i 0) (length-set ws i 0 ∙ e) (omega arith)
-  | no k ↦
-      let j : l - i ≡ l - suc i = omega arith in
-      let z : l - suc i ≡ 0 = omega arith in
-      ap (λ (m : ℕ). zero_from i m ws) (j ∙ z) ∙ sym (ap (λ (m : ℕ). zero_from (suc i) m ws) z) ∙ zero_clipped n (suc i) l ws e (omega arith)
-      ∙ sym (ap (zero_from (suc i) n) (set_out ws i 0 (omega arith)))
-]
+zero_nothing zero i = refl
+zero_nothing (suc n) i = zero_nothing n (suc i)
 
-pub zero_within : (from n : ℕ) (ws w : List ℕ) → w ≡ zero_from from (from + n - from) ws → w ≡ zero_from from n ws
-zero_within from n ws w e = let j : from + n - from ≡ n = omega arith in e ∙ ap (λ (k : ℕ). zero_from from k ws) j
+zero_later : (n i x : ℕ) (xs : List ℕ) → zero_from (suc i) n (x ∷ xs) ≡ x ∷ zero_from i n xs
+unfolding zero_from
+zero_later zero i x xs = refl
+zero_later (suc n) i x xs = zero_later n (suc i) x (set xs i 0)
 
-pub zero_all : (from n : ℕ) (ws w : List ℕ) → length ws ≤ from + n → w ≡ zero_from from (length ws - from) ws → w ≡ zero_from from n ws
-zero_all from n ws w h e = e ∙ zero_clipped n from (length ws) ws refl h
+zero_part : (i n : ℕ) (ws : List ℕ) → take i ws ++ (replicate (length (take n (drop i ws))) 0 ++ drop n (drop i ws)) ≡ zero_from i n ws
+unfolding zero_from
+zero_part zero zero ws = refl
+zero_part zero (suc n) [] = sym (zero_nothing n 1)
+zero_part zero (suc n) (x ∷ xs) = ap (λ (t : List ℕ). 0 ∷ t) (zero_part zero n xs) ∙ sym (zero_later n 0 0 xs)
+zero_part (suc i) zero [] = refl
+zero_part (suc i) (suc n) [] = sym (zero_nothing n (suc (suc i)))
+zero_part (suc i) n (x ∷ xs) = ap (λ (t : List ℕ). x ∷ t) (zero_part i n xs) ∙ sym (zero_later n i x xs)
+
+-- zeros filled into a part, as far as there are words
+pub zero_filled : (from n start end : ℕ) (ws ys : List ℕ) → start ≡ min from (length ws) → end ≡ min (from + n) (length ws)
+    → ys ≡ replicate (length (take (end - start) (drop start ws))) 0 → put_mid start (end - start) ws ys ≡ zero_from from n ws
+zero_filled from n start end ws ys es ee ey =
+    let k : end - start ≡ min n (length (drop from ws)) = omega (arith, length-drop from ws) in
+    rw (ey, k, es, take_min, drop_min, take_min, drop_min) (zero_part from n ws)
 
 -- a link is no mark: without it the same wires are looked at
 module _ (ws : List ℕ) (v : ℕ) (h : v < 65537) where

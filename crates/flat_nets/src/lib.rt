@@ -1,7 +1,7 @@
 // Tree nets of a file as flat nets: each is measured, and then written. `to_flat` of net.rs, net by net.
 #![tactic(auto)]
 
-ghost use Rattle.std.specs.Prelude.{◌≡◌, eqb, length, ◌+◌, ◌-◌, ◌≤◌};
+ghost use Rattle.std.specs.Prelude.{◌≡◌, eqb, ◌+◌, ◌≤◌};
 ghost use Rattle.net_file.specs.Lists.{bit};
 ghost use Rattle.fields.specs.Fields.{byte};
 ghost use Rattle.flat_nets.specs.Flat.{zero_from, empty_over, emptied, measured, linked, size, summed, passed, summed_all, passed_all, head_written, before_place, before_written, net_spot, net_words, net_out, nets_spot, nets_words, nets_out};
@@ -19,32 +19,17 @@ pub struct Measured {
     pub bytes: usize,
 }
 
-// Words from a place up to another made 0: one plain fill.
-fn fill(ws: &mut [u32], from: usize, to: usize)
-    requires { to ≤ length ws.old }
-    ensures { ws.new ≡ zero_from from (to - from) ws.old }
-{
-    let mut i = from;
-    while i < to {
-        ws[i] = 0;
-        i += 1;
-    }
-}
-
 // n words from a place on made 0, as far as there are words.
 fn zero_words(ws: &mut [u32], from: u32, n: u32)
     ensures { ws.new ≡ zero_from from n ws.old }
 {
-    let to = from as usize + n as usize;
-    let end = ws.len();
-    if to < end {
-        fill(ws, from as usize, to)
-    } else {
-        fill(ws, from as usize, end)
-    }
+    let start = (from as usize).min(ws.len());
+    let end = (from as usize + n as usize).min(ws.len());
+    ws[start..end].fill(0);
 }
 
 // The words of the wires that are looked at made 0; how far wires are linked.
+// Stays `while`: how far it is to the next wire is read from the marks.
 fn empty_wires(ws: &mut [u32]) -> u32
     ensures { (result ≡ extent ws.old 65536) × (result ≤ 65536) × (ws.new ≡ empty_over (looks_below ws.old 65536) ws.old) }
 {
@@ -130,10 +115,8 @@ pub fn measure_nets(s: &[u8], ws: &mut [u32], from: usize, n: u32, to: usize) ->
         wires: 0,
         to: to,
     };
-    let mut left = n;
-    while 0 < left {
+    for _ in 0..n {
         t = sum(s, ws, t);
-        left -= 1;
     }
     t
 }
@@ -199,10 +182,8 @@ pub fn write_nets(s: &[u8], ws: &mut [u32], out: &mut [u8], from: Spot, n: u32) 
     ensures { (result ≡ nets_spot s.now ws.old from n) × (ws.new ≡ nets_words s.now ws.old from n) × (out.new ≡ nets_out s.now ws.old from n out.old) }
 {
     let mut p = from;
-    let mut left = n;
-    while 0 < left {
+    for _ in 0..n {
         p = write_net(s, ws, out, p);
-        left -= 1;
     }
     p
 }

@@ -3,7 +3,7 @@
 use Prim.Native.Nat.{ℕ, zero, suc, ◌+◌, ◌*◌, ◌-◌, ◌≤◌, ◌<◌}
 use Rattle.std.specs.Prelude.{◌≡◌, Bool, true, false, List, [], ◌∷◌, ◌++◌, map, length, eqb}
 use Rattle.std.proofs.Math.Path.{refl}
-use Rattle.std.proofs.Common.{sym, ap, ◌∙◌, append_assoc, not-suc-le-zero}
+use Rattle.std.proofs.Common.{sym, ap, ◌∙◌, not-suc-le-zero}
 use native.Mathlib.Omega.{arith}
 use Rattle.std.proofs.lemmas.List.{length-map}
 use Rattle.net_file.specs.Lists.{concat_map, any}
@@ -12,7 +12,7 @@ use Rattle.net_file.specs.Checks.{places}
 use Rattle.net_file.specs.Write.{be, counted, write_name, write_node}
 use Rattle.conversions.specs.Links.{canonical, links_of}
 use Rattle.conversions.specs.Convert.{unused, resolve_flat}
-use Rattle.fields.specs.Fields.{byte, be16, be32}
+use Rattle.fields.specs.Fields.{byte, be16}
 use Rattle.stored.specs.Stored.{table_at, table_end, numbers_at, list_at, name_at, name_end, node_at, node_end, nodes_at}
 use Rattle.stored.specs.Laws.{table_length}
 use Rattle.ends.specs.Ends.{within, on, node_up, table_up}

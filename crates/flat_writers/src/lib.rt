@@ -29,13 +29,9 @@ fn flat_wires(
     ensures { Wrote (wires_from ws.now stamp s.now from 0 n) at out.old out.new result }
 {
     let mut p = at;
-    let mut j: u32 = 0;
-    let mut k = n;
-    while 0 < k {
+    for j in 0..n {
         let w = readers::be16_on(s, from, 1 + 2 * (j as usize));
         p = flat_wire(out, p, ws, stamp, w);
-        j += 1;
-        k -= 1;
     }
     p
 }
@@ -63,11 +59,9 @@ fn nodes(out: &mut [u8], at: usize, ws: &[u32], stamp: u16, s: &[u8], from: usiz
 {
     let mut p = at;
     let mut place = from;
-    let mut k = n;
-    while 0 < k {
+    for _ in 0..n {
         p = node(out, p, ws, stamp, s, place);
         place = ends::node_end(s, place);
-        k -= 1;
     }
     p
 }

@@ -106,21 +106,20 @@ others_done s at (suc k) found x g h = absurd (not-suc-le-zero h)
 
 -- ---- the first free one
 
-module _ (s : List ℕ) (at n : ℕ) (t : Bool) (x : ℕ) (e : t ≡ eqs free_path (path_at s at)) where
-  pub number_more : (a k : ℕ) → n - k + free_number s at k ≡ x → 0 < k → k ≤ n → t ≡ false → a ≡ within s (path_end s at)
-      → n - (k - 1) + free_number s a (k - 1) ≡ x
+module _ (s : List ℕ) (at : ℕ) (t : Bool) (x : ℕ) (e : t ≡ eqs free_path (path_at s at)) where
+  pub number_more : (a i k : ℕ) → i + free_number s at k ≡ x → 0 < k → t ≡ false → a ≡ within s (path_end s at) → i + 1 + free_number s a (k - 1) ≡ x
   unfolding free_number
-  number_more a zero g h i y ea = absurd (not-suc-le-zero h)
-  number_more a (suc k) g h i y ea =
+  number_more a i zero g h y ea = absurd (not-suc-le-zero h)
+  number_more a i (suc k) g h y ea =
       let f : suc (free_number s (within s (path_end s at)) k) ≡ free_number s at (suc k) = pick_false _ _ _ (sym e ∙ y) refl in
       rw (sub-one, ea) (omega arith)
 
-  pub number_found : (k : ℕ) → n - k + free_number s at k ≡ x → 0 < k → t ≡ true → n - k ≡ x
+  pub number_found : (i k : ℕ) → i + free_number s at k ≡ x → 0 < k → t ≡ true → i ≡ x
   unfolding free_number
-  number_found zero g h y = absurd (not-suc-le-zero h)
-  number_found (suc k) g h y = let f : 0 ≡ free_number s at (suc k) = pick_true _ _ _ (sym e ∙ y) refl in omega arith
+  number_found i zero g h y = absurd (not-suc-le-zero h)
+  number_found i (suc k) g h y = let f : 0 ≡ free_number s at (suc k) = pick_true _ _ _ (sym e ∙ y) refl in omega arith
 
-pub number_done : (s : List ℕ) (at n k x : ℕ) → n - k + free_number s at k ≡ x → k ≤ 0 → n ≡ x
+pub number_done : (s : List ℕ) (at i k x : ℕ) → i + free_number s at k ≡ x → k ≤ 0 → i ≡ x
 unfolding free_number
-number_done s at n zero x g h = omega arith
-number_done s at n (suc k) x g h = absurd (not-suc-le-zero h)
+number_done s at i zero x g h = omega arith
+number_done s at i (suc k) x g h = absurd (not-suc-le-zero h)

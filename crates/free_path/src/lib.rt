@@ -12,15 +12,11 @@ fn same(s: &[u8], from: usize, t: &[u8]) -> bool
     ensures { result ≡ eqs t.now (bytes_at s.now from (length t.now)) }
 {
     let mut at = from;
-    let mut i: usize = 0;
-    while i < t.len() {
-        let a = fields::byte(s, at);
-        let b = t[i];
-        if a != b {
+    for b in t {
+        if fields::byte(s, at) != *b {
             return false;
         }
         at = ends::on(s, at, 1);
-        i += 1;
     }
     true
 }
@@ -51,13 +47,11 @@ pub fn others(s: &[u8], from: usize, n: u32) -> u32
     ensures { result ≡ others s.now from n }
 {
     let mut at = from;
-    let mut k = n;
     let mut found: u32 = 0;
-    while 0 < k {
+    for _ in 0..n {
         let one = other(s, at);
         found += one;
         at = ends::path_end(s, at);
-        k -= 1;
     }
     found
 }
@@ -67,13 +61,11 @@ pub fn free_number(s: &[u8], from: usize, n: u32) -> u32
     ensures { result ≡ free_number s.now from n }
 {
     let mut at = from;
-    let mut k = n;
-    while 0 < k {
+    for i in 0..n {
         if is_free(s, at) {
-            return n - k;
+            return i;
         }
         at = ends::path_end(s, at);
-        k -= 1;
     }
     n
 }

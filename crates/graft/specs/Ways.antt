@@ -1,9 +1,9 @@
 -- What a function of the crate leaves on each way out, and one turn of each loop, in the words of its tests and calls.
 use Rattle.std.specs.Prelude.{ℕ, zero, suc, ◌+◌, ◌-◌, ◌<◌, ◌≤◌, Bool, true, false, ◌≡◌, refl, List}
-use Rattle.std.proofs.Common.{◌∙◌, sym, not-suc-le-zero, sub-one}
-use Rattle.words.specs.Choose.{if_eq, if_lt, eq_yes, eq_no, lt_yes, lt_no, pick, pick_true, pick_false}
+use Rattle.std.proofs.Common.{◌∙◌, not-suc-le-zero, sub-one}
+use Rattle.words.specs.Choose.{eq_yes, eq_no, lt_yes, lt_no, pick_true, pick_false}
 use Rattle.words.specs.Left.{Left, whole}
-use Rattle.layout.specs.Layout.{next, net_by_name, net_word_words, set_node_word, entry_word, across, set_across, principal, is_principal_words}
+use Rattle.layout.specs.Layout.{next, net_by_name, set_node_word, entry_word, across, set_across, principal, is_principal_words}
 use Rattle.lists.specs.Lists.{tighten_net_words}
 use Rattle.waits.specs.Waits.{await_net_words}
 use Rattle.waits.specs.declared.Awaited.{Awaited}

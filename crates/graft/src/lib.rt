@@ -31,15 +31,13 @@ fn copy_entries(ws: &mut [u32], t: NetId, first: u32, count: u32) -> u32
     ensures { (result ≡ (copy_entries ws.old t.0 first count).is) × (ws.new ≡ (copy_entries ws.old t.0 first count).ws) }
 {
     let mut c = first;
-    let mut k = count;
-    while 0 < k {
+    for _ in 0..count {
         let n = NodeId(layout::entry_word(ws, c, 0));
         let r = copy_node(ws, t, n);
         if 0 < r {
             return r;
         }
         c = layout::entry_word(ws, c, 1);
-        k -= 1;
     }
     0
 }
@@ -73,13 +71,11 @@ fn wire_ports(ws: &mut [u32], p: Port, q: Port, k: u32)
 {
     let mut x = p;
     let mut y = q;
-    let mut left = k;
-    while 0 < left {
+    for _ in 0..k {
         let z = copied_port(ws, layout::across(ws, x));
         layout::set_across(ws, y, z);
         x = layout::next_port(x);
         y = layout::next_port(y);
-        left -= 1;
     }
 }
 
@@ -96,12 +92,10 @@ fn wire_entries(ws: &mut [u32], first: u32, count: u32)
     ensures { ws.new ≡ wire_entries ws.old first count }
 {
     let mut c = first;
-    let mut k = count;
-    while 0 < k {
+    for _ in 0..count {
         let n = NodeId(layout::entry_word(ws, c, 0));
         wire_copy(ws, n);
         c = layout::entry_word(ws, c, 1);
-        k -= 1;
     }
 }
 

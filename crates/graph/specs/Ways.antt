@@ -1,5 +1,5 @@
 -- What a function of the crate leaves on each way out, and one turn of each loop, in the words of its tests and calls.
-use Rattle.std.specs.Prelude.{◌≡◌, ℕ, zero, suc, ◌+◌, ◌-◌, ◌<◌, ◌≤◌, List, [], ◌∷◌, set, ◌≢◌, slice_index, slice_index_or, slice_set, refl}
+use Rattle.std.specs.Prelude.{◌≡◌, ℕ, zero, suc, ◌-◌, ◌<◌, ◌≤◌, List, [], ◌∷◌, set, ◌≢◌, slice_index, slice_index_or, slice_set, refl}
 use Rattle.std.proofs.Common.{sym, ap, ◌∙◌, arith, not-suc-le-zero, sub-one, get_or-set_other}
 use Rattle.words.specs.Choose.{eq_yes, eq_no}
 use Rattle.layout.specs.Layout.{next, dirty_at, node_word, set_node_word, set_across}

@@ -86,7 +86,7 @@ pub fn link(ws: &mut [u32], a: Port, b: Port)
 {
     let x = layout::across(ws, a);
     layout::set_across(ws, a, a);
-    if x.0 == b.0 {
+    if x == b {
         layout::set_across(ws, b, b);
         return;
     }
@@ -101,12 +101,10 @@ pub fn link_all(ws: &mut [u32], a: Port, b: Port, k: u32)
 {
     let mut x = a;
     let mut y = b;
-    let mut left = k;
-    while 0 < left {
+    for _ in 0..k {
         link(ws, x, y);
         x = layout::next_port(x);
         y = layout::next_port(y);
-        left -= 1;
     }
 }
 
@@ -131,10 +129,8 @@ pub fn holes(ws: &mut [u32], p: Port, k: u32)
     ensures { ws.new ≡ holes ws.old p.0 k }
 {
     let mut q = p;
-    let mut left = k;
-    while 0 < left {
+    for _ in 0..k {
         layout::set_across(ws, q, q);
         q = layout::next_port(q);
-        left -= 1;
     }
 }

@@ -1,23 +1,26 @@
 -- A file's head is refused as `read` refuses it; past it `read` looks at the body (`read_head`).
-use Rattle.std.specs.Prelude.{ℕ, zero, suc, ◌+◌, ◌-◌, ◌<◌, ◌≤◌, ◌≡◌, refl, Bool, true, false, ◌&&◌, ◌||◌, List, length, drop, ltb}
-use Rattle.std.proofs.Common.{sym, ◌∙◌, arith}
+use Rattle.std.specs.Prelude
+use Rattle.std.specs.Prelude.{ℕ, zero, suc, Ok, Err, ◌+◌, ◌-◌, ◌<◌, ◌≤◌, ◌≡◌, refl, Bool, true, false, ◌&&◌, ◌||◌, List, length, drop, ltb}
+use Rattle.std.proofs.Common.{◌∙◌, arith}
 use Rattle.std.proofs.Math.Path.{ap}
-use Rattle.std.proofs.Math.Option.{Option, none, some}
+use Rattle.std.proofs.Math.Option.{some}
 use Rattle.std.proofs.Math.Dec.{eqb, leb}
 use borrow.Author.Tests.{le-leb, lt-leb, lt-ltb, le-ltb, eq-eqb, ne_eqb}
 use Rattle.words.specs.Choose.{if_lt, lt_split, eq_split}
-use Rattle.net_file.specs.Lists.{Result, ok, refuse, need}
+use Rattle.net_file.specs.Lists.{Result, refuse, need}
 use Rattle.net_file.specs.Values.{File, max_steps, no_limit}
 use Rattle.net_file.specs.Read.{number, read_body}
 use Rattle.net_file.specs.Checks.{Version, field, limit_fits, checked, read}
 use Rattle.fields.specs.Fields.{byte, be32}
 use Rattle.stored.specs.Laws.{in_1, in_4}
+use Rattle.refusals.specs.declared.Refusal.{Refusal}
+use Rattle.refusals.specs.Numbers.{number as number_of}
 use Rattle.head.specs.Head.{limit_head, head_of}
 
--- refused by n, or what comes after
-unfoldable pub past : {A : Type 0} → ℕ → Result A → Result A
-past zero x = x
-past (suc n) x = refuse (suc n)
+-- refused, or what comes after
+unfoldable pub past : {A : Type 0} → Prelude.Result (Unit {0}) Refusal → Result A → Result A
+past (Ok a) x = x
+past (Err e) x = refuse (number_of e)
 
 module _ (s : List ℕ) where
   field_in : (i k x : ℕ) (r : List ℕ) → number k (drop i s) ≡ some (x, r) → field i k s ≡ x
@@ -57,7 +60,7 @@ module _ {Net : Type 0} (v : Version Net) (s : List ℕ) where
   versioned = need (eqb (field 4 1 s) v.version) 3 (need (ltb (length s) 9 || limit_fits (field 5 4 s)) 4 body)
 
   -- from the limit on
-  limited : 5 ≤ length s → need (ltb (length s) 9 || limit_fits (field 5 4 s)) 4 body ≡ past (if_lt (length s) 9 0 (limit_head (be32 s 5))) body
+  limited : 5 ≤ length s → need (ltb (length s) 9 || limit_fits (field 5 4 s)) 4 body ≡ past (if_lt (length s) 9 (Ok tt) (limit_head (be32 s 5))) body
   unfolding past
   limited h = lt_split (length s) 9 _ _ (λ n. need (ltb (length s) 9 || limit_fits (field 5 4 s)) 4 body ≡ past n body)
       (λ l. ap (λ t. need (t || limit_fits (field 5 4 s)) 4 body) (lt-ltb (length s) 9 l))

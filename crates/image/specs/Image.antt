@@ -1,8 +1,6 @@
 -- The resumable image, on the lent words and bytes. docs/IMAGE.md lists its conditions in plain words. Level Words.
-use Rattle.std.specs.Prelude.{ℕ, Bool, true, false, List, length, take}
+use Rattle.std.specs.Prelude.{ℕ, Bool, List, length, take, is_ok}
 use Rattle.net_file.specs.Checks.{flat, read}
-use Rattle.net_check.specs.declared.Checked.{Checked}
-use Rattle.net_check.specs.declared.Checked.TheVariants.{Accepted, Refused}
 use Rattle.net_check.specs.Verdict.{verdict}
 use Rattle.layout.specs.Layout.{file_length}
 use Rattle.marks.specs.Tests.{most, given}
@@ -13,14 +11,9 @@ use Rattle.image_pools.specs.Pools.{pools_hold}
 use Rattle.image_dirty.specs.Dirty.{dirty_holds}
 use Rattle.image_pending.specs.Pending.{waits_hold}
 
--- the answer of a check is that the file is accepted
-unfoldable pub accepted : Checked → Bool
-accepted Accepted = true
-accepted (Refused r) = false
-
 -- "an accepted file"
 unfoldable pub file_holds : List ℕ → Bool
-file_holds file = accepted (verdict (read flat file))
+file_holds file = is_ok (verdict (read flat file))
 
 -- slots, lists, the dirty list, the waits
 unfoldable pub books_hold : List ℕ → List ℕ → Bool

@@ -1,6 +1,6 @@
 // The pools of an image: slots, entries and waits, counted from 1. Each place in use is in some list, or once in the chain of the free
 // ones. Marks: of slot c - 1 at 16,384 + c, of entry c and of wait c at c.
-#![tactic(auto)]
+#![tactic(auto, unfolding(crate::specs::Chains::used, crate::specs::Chains::first_free, crate::specs::Chains::after, crate::specs::Chains::spot, crate::specs::Chains::low, crate::specs::Chains::is_new, crate::specs::Chains::vacant, crate::specs::Chains::is_free, crate::specs::Chains::pool_holds, words::specs::Choose::pick, words::specs::Choose::if_eq, words::specs::Choose::if_lt))]
 
 ghost use Rattle.std.specs.Prelude.{Bool, ◌≡◌};
 ghost use Rattle.image_chains.specs.Chains.{used, first_free, after, spot, low, is_new, vacant, is_free, see, free_hold, pool_holds};
@@ -53,8 +53,7 @@ fn spot(pool: Pool, c: u32) -> usize
 {
     match pool {
         Pool::Slots => 16384 + c as usize,
-        Pool::Entries => c as usize,
-        Pool::Waits => c as usize,
+        Pool::Entries | Pool::Waits => c as usize,
     }
 }
 
@@ -64,8 +63,7 @@ fn low(pool: Pool) -> u32
 {
     match pool {
         Pool::Slots => 16385,
-        Pool::Entries => 1,
-        Pool::Waits => 1,
+        Pool::Entries | Pool::Waits => 1,
     }
 }
 
@@ -73,13 +71,7 @@ fn low(pool: Pool) -> u32
 pub fn is_new(ws: &[u32], marks: &[u8], pool: Pool, c: u32) -> bool
     ensures { result ≡ is_new pool ws.now marks.now c }
 {
-    if c == 0 {
-        return false;
-    }
-    if c <= used(ws, pool) {
-        return marks::clear(marks, spot(pool, c));
-    }
-    false
+    c != 0 && c <= used(ws, pool) && marks::clear(marks, spot(pool, c))
 }
 
 fn see(marks: &mut [u8], pool: Pool, c: u32)
@@ -94,8 +86,7 @@ fn vacant(ws: &[u32], pool: Pool, c: u32) -> bool
 {
     match pool {
         Pool::Slots => layout::node_word(ws, NodeId(layout::less(c)), 0) == 0,
-        Pool::Entries => true,
-        Pool::Waits => true,
+        Pool::Entries | Pool::Waits => true,
     }
 }
 
@@ -103,10 +94,7 @@ fn vacant(ws: &[u32], pool: Pool, c: u32) -> bool
 fn is_free(ws: &[u32], marks: &[u8], pool: Pool, c: u32) -> bool
     ensures { result ≡ is_free pool ws.now marks.now c }
 {
-    if is_new(ws, marks, pool, c) {
-        return vacant(ws, pool, c);
-    }
-    false
+    is_new(ws, marks, pool, c) && vacant(ws, pool, c)
 }
 
 // The free places from c on, at most k.
@@ -114,18 +102,15 @@ fn free_hold(ws: &[u32], marks: &mut [u8], pool: Pool, first: u32, k: u32) -> bo
     ensures { (result ≡ (free_hold pool ws.now marks.old first k).is) × (marks.new ≡ (free_hold pool ws.now marks.old first k).ws) }
 {
     let mut c = first;
-    let mut left = k;
-    while 0 < left {
+    for _ in 0..k {
         if c == 0 {
             return true;
         }
-        if is_free(ws, marks, pool, c) {
-            see(marks, pool, c);
-            c = after(ws, pool, c);
-            left -= 1;
-        } else {
+        if !is_free(ws, marks, pool, c) {
             return false;
         }
+        see(marks, pool, c);
+        c = after(ws, pool, c);
     }
     c == 0
 }
@@ -135,8 +120,5 @@ pub fn pool_holds(ws: &[u32], marks: &mut [u8], pool: Pool) -> bool
     ensures { (result ≡ (pool_holds pool ws.now marks.old).is) × (marks.new ≡ (pool_holds pool ws.now marks.old).ws) }
 {
     let k = used(ws, pool);
-    if free_hold(ws, marks, pool, first_free(ws, pool), k) {
-        return marks::all_met(marks, low(pool), k);
-    }
-    false
+    free_hold(ws, marks, pool, first_free(ws, pool), k) && marks::all_met(marks, low(pool), k)
 }

@@ -1,5 +1,5 @@
 -- The dirty list of an image. docs/IMAGE.md, "Dirty list", lists the same conditions. Level Words. Marks: of slot n at n.
-use Rattle.std.specs.Prelude.{ℕ, zero, suc, ◌+◌, ◌*◌, Bool, false, List, get_or, replicate, eqb, ltb}
+use Rattle.std.specs.Prelude.{ℕ, zero, suc, ◌+◌, ◌*◌, Bool, List, get_or, replicate, eqb, ltb}
 use Rattle.words.specs.Choose.{if_eq, pick}
 use Rattle.words.specs.Left.{Left}
 use Rattle.layout.specs.Layout.{next, node_pool, node_word, dirty_at, dirty_length, dirty_capacity, dirty_stale}

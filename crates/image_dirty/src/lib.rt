@@ -1,5 +1,5 @@
 // The dirty list of an image: every dirty node is in it, and the counts agree. Marks: of slot n at n.
-#![tactic(auto)]
+#![tactic(auto, unfolding(crate::specs::Dirty::entry_holds, crate::specs::Dirty::meets, crate::specs::Dirty::meet, crate::specs::Dirty::mark_holds, crate::specs::Dirty::sizes_hold, crate::specs::Dirty::counts_from, crate::specs::Dirty::counts_hold, crate::specs::Dirty::dirty_holds, words::specs::Choose::pick, words::specs::Choose::if_eq, words::specs::Choose::if_lt))]
 
 ghost use Rattle.std.specs.Prelude.{◌≡◌};
 ghost use Rattle.image_dirty.specs.Dirty.{entry_holds, entries_hold, meets, meet, meet_all, mark_holds, marks_hold, sizes_hold, counts_from, counts_hold, dirty_holds};
@@ -17,27 +17,14 @@ fn entry_holds(ws: &[u32], i: u32) -> bool
 fn entries_hold(ws: &[u32], k: u32) -> bool
     ensures { result ≡ entries_hold ws.now k }
 {
-    let mut i: u32 = 0;
-    let mut left = k;
-    while 0 < left {
-        if entry_holds(ws, i) {
-            i = layout::next(i);
-            left -= 1;
-        } else {
-            return false;
-        }
-    }
-    true
+    (0..k).all(|i| entry_holds(ws, i))
 }
 
 // Node n is dirty and has not been met.
 fn meets(ws: &[u32], marks: &[u8], n: u32) -> bool
     ensures { result ≡ meets ws.now marks.now n }
 {
-    if layout::node_word(ws, NodeId(n), 2) == 1 {
-        return marks::clear(marks, n as usize);
-    }
-    false
+    layout::node_word(ws, NodeId(n), 2) == 1 && marks::clear(marks, n as usize)
 }
 
 // How many dirty nodes are met, with node n.
@@ -46,23 +33,20 @@ fn meet(ws: &[u32], marks: &mut [u8], n: u32, met: u32) -> u32
 {
     if meets(ws, marks, n) {
         marks::see(marks, n);
-        return layout::next(met);
+        layout::next(met)
+    } else {
+        met
     }
-    met
 }
 
 // With those of k entries.
 fn meet_all(ws: &[u32], marks: &mut [u8], k: u32) -> u32
     ensures { (result ≡ (meet_all ws.now marks.old 0 0 k).is) × (marks.new ≡ (meet_all ws.now marks.old 0 0 k).ws) }
 {
-    let mut i: u32 = 0;
-    let mut met: u32 = 0;
-    let mut left = k;
-    while 0 < left {
+    let mut met = 0;
+    for i in 0..k {
         let n = words::get(ws, layout::dirty_at(i));
         met = meet(ws, marks, n, met);
-        i = layout::next(i);
-        left -= 1;
     }
     met
 }
@@ -78,17 +62,7 @@ fn mark_holds(ws: &[u32], marks: &[u8], n: u32) -> bool
 fn marks_hold(ws: &[u32], marks: &[u8], k: u32) -> bool
     ensures { result ≡ marks_hold ws.now marks.now k }
 {
-    let mut n: u32 = 0;
-    let mut left = k;
-    while 0 < left {
-        if mark_holds(ws, marks, n) {
-            n = layout::next(n);
-            left -= 1;
-        } else {
-            return false;
-        }
-    }
-    true
+    (0..k).all(|n| mark_holds(ws, marks, n))
 }
 
 // A capacity within 4N + 4; none was pushed where it is 0.
@@ -96,12 +70,11 @@ fn sizes_hold(nodes: u32, length: u32, capacity: u32, stale: u32) -> bool
     ensures { result ≡ sizes_hold nodes length capacity stale }
 {
     if capacity == 0 {
-        return length == 0;
+        length == 0
+    } else {
+        capacity as u64 <= 4 * (nodes as u64) + 4
+            && image_lists::sizes_hold(length, capacity, stale)
     }
-    if capacity as u64 <= 4 * (nodes as u64) + 4 {
-        return image_lists::sizes_hold(length, capacity, stale);
-    }
-    false
 }
 
 // All but the stale entries are dirty nodes met for the first time, and no other is dirty.
@@ -109,10 +82,8 @@ fn counts_from(ws: &[u32], marks: &mut [u8], length: u32, stale: u32) -> bool
     ensures { (result ≡ (counts_from ws.now marks.old length stale).is) × (marks.new ≡ (counts_from ws.now marks.old length stale).ws) }
 {
     let met = meet_all(ws, marks, length);
-    if met as u64 + stale as u64 == length as u64 {
-        return marks_hold(ws, marks, words::get(ws, layout::FRESH_SLOT));
-    }
-    false
+    met as u64 + stale as u64 == length as u64
+        && marks_hold(ws, marks, words::get(ws, layout::FRESH_SLOT))
 }
 
 fn counts_hold(ws: &[u32], length: u32, stale: u32) -> bool
@@ -128,11 +99,8 @@ pub fn dirty_holds(ws: &[u32]) -> bool
     let nodes = words::get(ws, layout::NODE_POOL);
     let length = words::get(ws, layout::DIRTY_LENGTH);
     let stale = words::get(ws, layout::DIRTY_STALE);
-    if sizes_hold(nodes, length, words::get(ws, layout::DIRTY_CAPACITY), stale) {
-        if entries_hold(ws, length) {
-            return counts_hold(ws, length, stale);
-        }
-        return false;
-    }
-    false
+    let capacity = words::get(ws, layout::DIRTY_CAPACITY);
+    sizes_hold(nodes, length, capacity, stale)
+        && entries_hold(ws, length)
+        && counts_hold(ws, length, stale)
 }

@@ -1,6 +1,6 @@
 -- The node lists of an image. docs/IMAGE.md, "Node lists", lists the same conditions. Level Words.
 -- Marks: of entry c at c, of slot n at 16,385 + n.
-use Rattle.std.specs.Prelude.{ℕ, zero, suc, ◌+◌, ◌*◌, ◌%◌, Bool, true, false, List, eqb, ltb}
+use Rattle.std.specs.Prelude.{ℕ, zero, suc, ◌+◌, ◌*◌, ◌%◌, Bool, false, List, eqb, ltb}
 use Rattle.words.specs.Choose.{if_lt, pick}
 use Rattle.words.specs.Left.{Left}
 use Rattle.layout.specs.Layout.{next, node_pool, net_word_words, node_word, entry_word}

@@ -1,5 +1,5 @@
 // The node lists of an image: chains that share no entry. A walk over them marks every entry and every node that it meets.
-#![tactic(auto)]
+#![tactic(auto, unfolding(crate::specs::Lists::entry_holds, crate::specs::Lists::meets, crate::specs::Lists::meet, crate::specs::Lists::step_on, crate::specs::Lists::step, crate::specs::Lists::sizes_hold, crate::specs::Lists::list_sizes_hold, crate::specs::Lists::first_holds, crate::specs::Lists::starts, crate::specs::Lists::end_holds, crate::specs::Lists::walked, crate::specs::Lists::list_holds, words::specs::Choose::pick, words::specs::Choose::if_eq, words::specs::Choose::if_lt))]
 
 ghost use Rattle.std.specs.Prelude.{◌≡◌};
 ghost use Rattle.marks.specs.Walks.{each_with};
@@ -14,20 +14,15 @@ use kinds::{NetId, NodeId};
 fn entry_holds(ws: &[u32], marks: &[u8], c: u32) -> bool
     ensures { result ≡ entry_holds ws.now marks.now c }
 {
-    if image_chains::is_new(ws, marks, Pool::Entries, c) {
-        return layout::entry_word(ws, c, 0) < words::get(ws, layout::NODE_POOL);
-    }
-    false
+    image_chains::is_new(ws, marks, Pool::Entries, c)
+        && layout::entry_word(ws, c, 0) < words::get(ws, layout::NODE_POOL)
 }
 
 // Slot n holds a node of net t that has not been met.
 fn meets(ws: &[u32], marks: &[u8], t: NetId, n: u32) -> bool
     ensures { result ≡ meets ws.now marks.now t.0 n }
 {
-    if layout::node_word(ws, NodeId(n), 0) == t.0 {
-        return marks::clear(marks, 16385 + n as usize);
-    }
-    false
+    layout::node_word(ws, NodeId(n), 0) == t.0 && marks::clear(marks, 16385 + n as usize)
 }
 
 // ---- lists
@@ -47,28 +42,29 @@ fn meet(ws: &[u32], marks: &mut [u8], t: NetId, n: u32, met: u32) -> u32
 {
     if meets(ws, marks, t, n) {
         marks::mark(marks, 16385 + n as usize);
-        return layout::next(met);
+        layout::next(met)
+    } else {
+        met
     }
-    met
 }
 
 fn step(ws: &[u32], marks: &mut [u8], t: NetId, w: Walk) -> Walk
     ensures { (result ≡ (step ws.now marks.old t.0 w).is) × (marks.new ≡ (step ws.now marks.old t.0 w).ws) }
 {
     let c = w.entry;
-    if entry_holds(ws, marks, c) {
-        marks::mark(marks, c as usize);
-        let met = meet(ws, marks, t, layout::entry_word(ws, c, 0), w.met);
+    if !entry_holds(ws, marks, c) {
         return Walk {
-            entry: layout::entry_word(ws, c, 1),
-            last: c,
-            met,
+            entry: 0,
+            last: 0,
+            ..w
         };
     }
+    marks::mark(marks, c as usize);
+    let met = meet(ws, marks, t, layout::entry_word(ws, c, 0), w.met);
     Walk {
-        entry: 0,
-        last: 0,
-        met: w.met,
+        entry: layout::entry_word(ws, c, 1),
+        last: c,
+        met,
     }
 }
 
@@ -77,10 +73,8 @@ fn walk_list(ws: &[u32], marks: &mut [u8], t: NetId, from: Walk, k: u32) -> Walk
     ensures { (result ≡ (walk_list ws.now marks.old t.0 from k).is) × (marks.new ≡ (walk_list ws.now marks.old t.0 from k).ws) }
 {
     let mut w = from;
-    let mut left = k;
-    while 0 < left {
+    for _ in 0..k {
         w = step(ws, marks, t, w);
-        left -= 1;
     }
     w
 }
@@ -89,16 +83,10 @@ fn walk_list(ws: &[u32], marks: &mut [u8], t: NetId, from: Walk, k: u32) -> Walk
 pub fn sizes_hold(length: u32, capacity: u32, stale: u32) -> bool
     ensures { result ≡ sizes_hold length capacity stale }
 {
-    if capacity < 4 {
-        return false;
-    }
-    if 16384 % capacity == 0 {
-        if length <= capacity {
-            return 2 * (stale as u64) < capacity as u64;
-        }
-        return false;
-    }
-    false
+    4 <= capacity
+        && 16384 % capacity == 0
+        && length <= capacity
+        && 2 * (stale as u64) < capacity as u64
 }
 
 fn list_sizes_hold(ws: &[u32], t: NetId) -> bool
@@ -122,55 +110,40 @@ fn first_holds(ws: &[u32], t: NetId) -> bool
 fn starts(ws: &[u32], t: NetId) -> bool
     ensures { result ≡ starts ws.now t.0 }
 {
-    if list_sizes_hold(ws, t) {
-        return first_holds(ws, t);
-    }
-    false
+    list_sizes_hold(ws, t) && first_holds(ws, t)
 }
 
 // The walk came to the list's end, and all but the stale entries were nodes.
 fn end_holds(ws: &[u32], t: NetId, w: Walk) -> bool
     ensures { result ≡ end_holds ws.now t.0 w }
 {
-    if w.last == 0 {
-        return false;
-    }
-    if w.entry == 0 {
-        if w.last == layout::net_word(ws, t, 3) {
-            return w.met as u64 + layout::net_word(ws, t, 6) as u64
-                == layout::net_word(ws, t, 4) as u64;
-        }
-        return false;
-    }
-    false
+    w.last != 0
+        && w.entry == 0
+        && w.last == layout::net_word(ws, t, 3)
+        && w.met as u64 + layout::net_word(ws, t, 6) as u64 == layout::net_word(ws, t, 4) as u64
 }
 
 fn list_holds(ws: &[u32], marks: &mut [u8], t: NetId) -> bool
     ensures { (result ≡ (list_holds ws.now marks.old t.0).is) × (marks.new ≡ (list_holds ws.now marks.old t.0).ws) }
 {
-    if starts(ws, t) {
-        let from = Walk {
-            entry: layout::net_word(ws, t, 2),
-            last: 0,
-            met: 0,
-        };
-        let w = walk_list(ws, marks, t, from, layout::net_word(ws, t, 4));
-        return end_holds(ws, t, w);
+    if !starts(ws, t) {
+        return false;
     }
-    false
+    let from = Walk {
+        entry: layout::net_word(ws, t, 2),
+        last: 0,
+        met: 0,
+    };
+    let w = walk_list(ws, marks, t, from, layout::net_word(ws, t, 4));
+    end_holds(ws, t, w)
 }
 
 // The lists of k nets.
 pub fn each_list_holds(ws: &[u32], marks: &mut [u8], k: u32) -> bool
     ensures { (result ≡ (each_with (list_holds ws.now) marks.old 1 k).is) × (marks.new ≡ (each_with (list_holds ws.now) marks.old 1 k).ws) }
 {
-    let mut t: u32 = 1;
-    let mut left = k;
-    while 0 < left {
-        if list_holds(ws, marks, NetId(t)) {
-            t = layout::next(t);
-            left -= 1;
-        } else {
+    for i in 0..k {
+        if !list_holds(ws, marks, NetId(i + 1)) {
             return false;
         }
     }

@@ -1,11 +1,11 @@
 -- The nets of an image. docs/IMAGE.md, "Nets", lists the same conditions. Level Words.
-use Rattle.std.specs.Prelude.{ℕ, zero, suc, ◌+◌, Bool, true, List, get_or, eqb}
+use Rattle.std.specs.Prelude.{ℕ, zero, suc, ◌+◌, Bool, true, false, Option, Some, None, List, get_or, eqb}
 use Rattle.words.specs.Choose.{if_eq, pick}
 use Rattle.fields.specs.Fields.{byte, be16}
 use Rattle.stored.specs.Stored.{flat_net_end, net_count_at}
 use Rattle.ends.specs.Ends.{within, on}
 use Rattle.layout.specs.Layout.{next, nets, net_by_name, net_word_words, node_word, across, principal}
-use Rattle.marks.specs.Tests.{same, other, below, most, given, each}
+use Rattle.marks.specs.Tests.{same, below, most, given, each}
 
 -- "free nodes' ports 0 and 1 wired"
 unfoldable pub closed : List ℕ → ℕ → Bool
@@ -29,9 +29,14 @@ called ws t name = same (net_word_words ws t 0) name (eqb (net_by_name ws name) 
 unfoldable pub net_holds : List ℕ → List ℕ → ℕ → ℕ → Bool
 net_holds ws file t at = given (called ws t (be16 file at)) (free_holds ws t (2 + byte file (at + 7)))
 
--- the number after net t, where the net at a place is included and is net t; t, where it is not included; 0, where all is not well
-unfoldable pub after_net : List ℕ → List ℕ → ℕ → ℕ → ℕ
-after_net ws file t at = if_eq (byte file (at + 2)) 1 (pick (net_holds ws file t at) (next t) 0) t
+-- the number after net t, where the net at a place is included and is net t; t, where it is not included; none, where all is not well
+unfoldable pub after_net : List ℕ → List ℕ → ℕ → ℕ → Option ℕ
+after_net ws file t at = if_eq (byte file (at + 2)) 1 (pick (net_holds ws file t at) (Some (next t)) None) (Some t)
+
+-- there is a number, and the rest
+abbrev pub known : Option ℕ → (ℕ → Bool) → Bool
+known None rest = false
+known (Some u) rest = rest u
 
 -- there are t - 1 nets
 unfoldable pub counted : List ℕ → ℕ → Bool
@@ -40,9 +45,7 @@ counted ws t = eqb t (next (nets ws))
 -- of the file's k nets from a place on, the included ones are net t and those after it, and there are no others
 unfoldable pub included_hold : List ℕ → List ℕ → ℕ → ℕ → ℕ → Bool
 included_hold ws file at t zero = counted ws t
-included_hold ws file at t (suc k) =
-    let u = after_net ws file t at in
-    other u 0 (included_hold ws file (within file (flat_net_end file at)) u k)
+included_hold ws file at t (suc k) = known (after_net ws file t at) (λ u. included_hold ws file (within file (flat_net_end file at)) u k)
 
 -- a name has no net, or a net of this name
 unfoldable pub name_holds : List ℕ → ℕ → Bool

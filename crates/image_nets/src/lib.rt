@@ -1,5 +1,5 @@
 // The nets of an image: the included nets of the held file in its order, each with its free node, and the nets by name.
-#![tactic(auto)]
+#![tactic(auto, unfolding(crate::specs::Nets::closed, crate::specs::Nets::is_free, crate::specs::Nets::free_holds, crate::specs::Nets::called, crate::specs::Nets::net_holds, crate::specs::Nets::after_net, crate::specs::Nets::counted, crate::specs::Nets::name_holds, crate::specs::Nets::nets_hold, words::specs::Choose::pick, words::specs::Choose::if_eq, words::specs::Choose::if_lt))]
 
 ghost use Rattle.std.specs.Prelude.{◌+◌, ◌≡◌};
 ghost use Rattle.image_nets.specs.Nets.{closed, is_free, free_holds, called, net_holds, after_net, counted, included_hold, name_holds, names_hold, nets_hold};
@@ -18,13 +18,9 @@ fn closed(ws: &[u32], n: NodeId) -> bool
 fn is_free(ws: &[u32], t: NetId, n: NodeId, arity: u32) -> bool
     ensures { result ≡ is_free ws.now t.0 n.0 arity }
 {
-    if layout::node_word(ws, n, 0) == t.0 {
-        if layout::node_word(ws, n, 1) == 0 {
-            return layout::node_word(ws, n, 3) == arity;
-        }
-        return false;
-    }
-    false
+    layout::node_word(ws, n, 0) == t.0
+        && layout::node_word(ws, n, 1) == 0
+        && layout::node_word(ws, n, 3) == arity
 }
 
 // Net t has a free node with so many ports.
@@ -32,46 +28,38 @@ fn free_holds(ws: &[u32], t: NetId, arity: u32) -> bool
     ensures { result ≡ free_holds ws.now t.0 arity }
 {
     let n = layout::net_word(ws, t, 1);
-    if n < words::get(ws, layout::FRESH_SLOT) {
-        if is_free(ws, t, NodeId(n), arity) {
-            return closed(ws, NodeId(n));
-        }
-        return false;
-    }
-    false
+    n < words::get(ws, layout::FRESH_SLOT)
+        && is_free(ws, t, NodeId(n), arity)
+        && closed(ws, NodeId(n))
 }
 
 // Net t has this name, and the name this net.
 fn called(ws: &[u32], t: NetId, name: u32) -> bool
     ensures { result ≡ called ws.now t.0 name }
 {
-    if layout::net_word(ws, t, 0) == name {
-        return layout::net_by_name(ws, name).0 == t.0;
-    }
-    false
+    layout::net_word(ws, t, 0) == name && layout::net_by_name(ws, name).0 == t.0
 }
 
 // Net t is the net at a place of the file.
 fn net_holds(ws: &[u32], file: &[u8], t: NetId, at: usize) -> bool
     ensures { result ≡ net_holds ws.now file.now t.0 at }
 {
-    if called(ws, t, fields::be16(file, at) as u32) {
-        return free_holds(ws, t, 2 + readers::byte_on(file, at, 7) as u32);
-    }
-    false
+    called(ws, t, fields::be16(file, at) as u32)
+        && free_holds(ws, t, 2 + readers::byte_on(file, at, 7) as u32)
 }
 
-// The number after net t, if that is the net at a place; the same number, if the net there is not included; 0 if all is not well.
-fn after_net(ws: &[u32], file: &[u8], t: u32, at: usize) -> u32
+// The number after net t, where that is the net at a place; the same number, where the net there is not included; none where all is
+// not well.
+fn after_net(ws: &[u32], file: &[u8], t: u32, at: usize) -> Option<u32>
     ensures { result ≡ after_net ws.now file.now t at }
 {
-    if readers::byte_on(file, at, 2) == 1 {
-        if net_holds(ws, file, NetId(t), at) {
-            return layout::next(t);
-        }
-        return 0;
+    if readers::byte_on(file, at, 2) != 1 {
+        Some(t)
+    } else if net_holds(ws, file, NetId(t), at) {
+        Some(layout::next(t))
+    } else {
+        None
     }
-    t
 }
 
 // The next net would be net t.
@@ -87,14 +75,12 @@ fn included_hold(ws: &[u32], file: &[u8], from: usize, count: u32) -> bool
 {
     let mut at = from;
     let mut t: u32 = 1;
-    let mut left = count;
-    while 0 < left {
-        t = after_net(ws, file, t, at);
-        if t == 0 {
+    for i in 0..count {
+        let Some(after) = after_net(ws, file, t, at) else {
             return false;
-        }
-        at = ends::next_net(file, at, left);
-        left -= 1;
+        };
+        t = after;
+        at = ends::next_net(file, at, count - i);
     }
     counted(ws, t)
 }
@@ -104,30 +90,14 @@ fn name_holds(ws: &[u32], name: u32) -> bool
     ensures { result ≡ name_holds ws.now name }
 {
     let t = layout::net_by_name(ws, name);
-    if t.0 == 0 {
-        return true;
-    }
-    if t.0 <= words::get(ws, layout::NETS) {
-        return layout::net_word(ws, t, 0) == name;
-    }
-    false
+    t.0 == 0 || t.0 <= words::get(ws, layout::NETS) && layout::net_word(ws, t, 0) == name
 }
 
 // All 1,024 names.
 fn names_hold(ws: &[u32]) -> bool
     ensures { result ≡ names_hold ws.now }
 {
-    let mut name: u32 = 0;
-    let mut left: u32 = 1024;
-    while 0 < left {
-        if name_holds(ws, name) {
-            name = layout::next(name);
-            left -= 1;
-        } else {
-            return false;
-        }
-    }
-    true
+    (0..1024).all(|name| name_holds(ws, name))
 }
 
 pub fn nets_hold(ws: &[u32], file: &[u8]) -> bool
@@ -135,8 +105,5 @@ pub fn nets_hold(ws: &[u32], file: &[u8]) -> bool
 {
     let nets = readers::net_count_at(file);
     let from = ends::on(file, nets, 2);
-    if included_hold(ws, file, from, fields::be16(file, nets) as u32) {
-        return names_hold(ws);
-    }
-    false
+    included_hold(ws, file, from, fields::be16(file, nets) as u32) && names_hold(ws)
 }

@@ -1,6 +1,6 @@
 -- The nets of words that mean an engine of a run are the file's included nets, in its order.
 use Prim.Native.Nat.{ℕ, zero, suc, ◌+◌, ◌<◌, ◌≤◌}
-use Rattle.std.specs.Prelude.{◌≡◌, ◌⊎◌, Bool, eqb}
+use Rattle.std.specs.Prelude.{◌≡◌, ◌⊎◌, Bool, Some, eqb}
 use Rattle.std.proofs.Math.Path.{refl, sym, ap, subst}
 use Rattle.std.proofs.Common.{◌∙◌, inl, inr, add-zero, zero-add, drop-cons}
 use Rattle.std.proofs.Math.Bool.{true, false}
@@ -28,7 +28,7 @@ use Rattle.reached_laws.specs.Image.{Image}
 use Rattle.means.specs.Means.{no_net, Means}
 use Rattle.image_nets.specs.Nets.{called, net_holds, free_holds, after_net, counted, included_hold, name_holds, names_hold, nets_hold}
 use Rattle.marks.specs.Tests.{other, most}
-use Rattle.image_means.specs.Yes.{same_yes, other_yes, most_yes, given_yes, each_yes}
+use Rattle.image_means.specs.Yes.{same_yes, most_yes, given_yes, each_yes}
 use Rattle.image_means.specs.Tidy.{Tidy}
 use Rattle.image_nets_means.specs.Free.{free_passes}
 
@@ -88,15 +88,15 @@ module _ (Named : ℕ → Name → Type 0) (s : List ℕ) (f : File FlatNet) (re
   blank : FlatNet
   blank = record { name = 0; included = false; wires = 0; free = []; pairs = []; nodes = [] }
 
-  after_included : (k at : ℕ) (v : FlatNet) → NetStands s v at → NetOf k v → v.included ≡ true → after_net ws s (k + 1) at ≡ k + 2
+  after_included : (k at : ℕ) (v : FlatNet) → NetStands s v at → NetOf k v → v.included ≡ true → after_net ws s (k + 1) at ≡ Some (k + 2)
   unfolding after_net
   after_included k at v st o y =
       let b = m.header.few_nets in
       let h = o.0 in
       let z : next (k + 1) ≡ k + 2 = omega arith in
-      sym (eq_yes (byte s (at + 2)) 1 _ _ (eqb-true (byte s (at + 2)) 1 (sym st.included ∙ y)) (pick_true _ _ _ (net_passes k at v st o) (sym z)))
+      sym (eq_yes (byte s (at + 2)) 1 _ _ (eqb-true (byte s (at + 2)) 1 (sym st.included ∙ y)) (pick_true _ _ _ (net_passes k at v st o) (ap Some (sym z))))
 
-  after_passed : (k at : ℕ) (v : FlatNet) → NetStands s v at → v.included ≡ false → after_net ws s (k + 1) at ≡ k + 1
+  after_passed : (k at : ℕ) (v : FlatNet) → NetStands s v at → v.included ≡ false → after_net ws s (k + 1) at ≡ Some (k + 1)
   unfolding after_net
   after_passed k at v st y = sym (eq_no (byte s (at + 2)) 1 _ _ (eqb-false (byte s (at + 2)) 1 (sym st.included ∙ y)) refl)
 
@@ -109,9 +109,9 @@ module _ (Named : ℕ → Name → Type 0) (s : List ℕ) (f : File FlatNet) (re
   on_to i = let y : suc i ≡ i + 1 = omega arith in rw y (net_next s (net_count_at s + 2) i _ _ refl refl)
 
   -- past net i, to net u of the run
-  past : (c i k u : ℕ) → after_net ws s (k + 1) (place i) ≡ u + 1 → included_hold ws s (place (suc i)) (u + 1) c ≡ true → included_hold ws s (place i) (k + 1) (suc c) ≡ true
+  past : (c i k u : ℕ) → after_net ws s (k + 1) (place i) ≡ Some (u + 1) → included_hold ws s (place (suc i)) (u + 1) c ≡ true → included_hold ws s (place i) (k + 1) (suc c) ≡ true
   unfolding included_hold
-  past c i k u ea ih = rw (ea, on_to i) (other_yes (u + 1) 0 _ (omega arith) ih)
+  past c i k u ea ih = rw (ea, on_to i) ih
 
   included_from : (c i k : ℕ) → i + c ≡ length f.nets → NetsFrom k (keep (λ u. u.included) (drop i f.nets)) → included_hold ws s (place i) (k + 1) c ≡ true
   unfolding included_hold counted
@@ -128,7 +128,7 @@ module _ (Named : ℕ → Name → Type 0) (s : List ℕ) (f : File FlatNet) (re
           → NetsFrom k (elim b as (λ _. List FlatNet) [ true ↦ get_or f.nets i blank ∷ keep (λ u. u.included) (drop (suc i) f.nets) | false ↦ keep (λ u. u.included) (drop (suc i) f.nets) ])
           → ((j : ℕ) → NetsFrom j (keep (λ u. u.included) (drop (suc i) f.nets)) → included_hold ws s (place (suc i)) (j + 1) c ≡ true)
           → included_hold ws s (place i) (k + 1) (suc c) ≡ true
-      go true y n ih = past c i k (k + 1) (after_included k (place i) (get_or f.nets i blank) (stands i (omega arith)) n.0 y ∙ omega arith) (ih (k + 1) n.1)
+      go true y n ih = past c i k (k + 1) (after_included k (place i) (get_or f.nets i blank) (stands i (omega arith)) n.0 y ∙ (let same : k + 2 ≡ k + 1 + 1 = omega arith in ap Some same)) (ih (k + 1) n.1)
       go false y n ih = past c i k k (after_passed k (place i) (get_or f.nets i blank) (stands i (omega arith)) y) (ih k n)
 
   -- ---- names

@@ -1,6 +1,6 @@
 // The pending numbers of an image, which count the dirty nodes of a net and the waits that its nodes made; and its waits, each on
 // a net or free.
-#![tactic(auto)]
+#![tactic(auto, unfolding(crate::specs::Pending::count, crate::specs::Pending::count_node, crate::specs::Pending::count_wait, crate::specs::Pending::count_holds, crate::specs::Pending::counted, crate::specs::Pending::pending_from, crate::specs::Pending::pending_holds, crate::specs::Pending::rest_holds, crate::specs::Pending::all_hold, crate::specs::Pending::waits_hold, words::specs::Choose::pick, words::specs::Choose::if_eq, words::specs::Choose::if_lt))]
 
 ghost use Rattle.std.specs.Prelude.{◌≡◌};
 ghost use Rattle.image_pending.specs.Pending.{count, count_node, count_nodes, count_wait, count_waits, count_holds, counts_hold, pending_from, pending_holds, all_hold, waits_hold};
@@ -29,12 +29,8 @@ fn count_node(ws: &[u32], tally: &mut [u32], n: NodeId)
 fn count_nodes(ws: &[u32], tally: &mut [u32], k: u32)
     ensures { tally.new ≡ count_nodes ws.now tally.old 0 k }
 {
-    let mut n: u32 = 0;
-    let mut left = k;
-    while 0 < left {
+    for n in 0..k {
         count_node(ws, tally, NodeId(n));
-        n = layout::next(n);
-        left -= 1;
     }
 }
 
@@ -51,12 +47,8 @@ fn count_wait(ws: &[u32], marks: &[u8], tally: &mut [u32], c: u32)
 fn count_waits(ws: &[u32], marks: &[u8], tally: &mut [u32], k: u32)
     ensures { tally.new ≡ count_waits ws.now marks.now tally.old 1 k }
 {
-    let mut c: u32 = 1;
-    let mut left = k;
-    while 0 < left {
-        count_wait(ws, marks, tally, c);
-        c = layout::next(c);
-        left -= 1;
+    for i in 0..k {
+        count_wait(ws, marks, tally, i + 1);
     }
 }
 
@@ -71,17 +63,7 @@ fn count_holds(ws: &[u32], tally: &[u32], t: u32) -> bool
 fn counts_hold(ws: &[u32], tally: &[u32], k: u32) -> bool
     ensures { result ≡ counts_hold ws.now tally.now k }
 {
-    let mut t: u32 = 1;
-    let mut left = k;
-    while 0 < left {
-        if count_holds(ws, tally, t) {
-            t = layout::next(t);
-            left -= 1;
-        } else {
-            return false;
-        }
-    }
-    true
+    (0..k).all(|i| count_holds(ws, tally, layout::next(i)))
 }
 
 // Of the marks those of the waits on nets are set.
@@ -103,13 +85,9 @@ fn pending_holds(ws: &[u32], marks: &[u8]) -> bool
 fn all_hold(ws: &[u32], marks: &mut [u8]) -> bool
     ensures { (result ≡ (all_hold ws.now marks.old).is) × (marks.new ≡ (all_hold ws.now marks.old).ws) }
 {
-    if image_waits::each_net_holds(ws, marks, words::get(ws, layout::NETS)) {
-        if pending_holds(ws, marks) {
-            return image_chains::pool_holds(ws, marks, Pool::Waits);
-        }
-        return false;
-    }
-    false
+    image_waits::each_net_holds(ws, marks, words::get(ws, layout::NETS))
+        && pending_holds(ws, marks)
+        && image_chains::pool_holds(ws, marks, Pool::Waits)
 }
 
 pub fn waits_hold(ws: &[u32]) -> bool

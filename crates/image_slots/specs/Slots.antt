@@ -1,11 +1,9 @@
 -- The slots of an image. docs/IMAGE.md, "Slots", lists the same conditions. Level Words.
-use Rattle.std.specs.Prelude.{ℕ, ◌-◌, ◌/◌, ◌%◌, Bool, true, false, List, get_or, eqb, ltb}
+use Rattle.std.specs.Prelude.{ℕ, ◌-◌, ◌%◌, Bool, true, false, List, get_or, eqb, ltb, Option, Some, None}
 use Rattle.words.specs.Choose.{if_eq}
 use Rattle.fields.specs.Fields.{be16}
 use Rattle.net_file.specs.Read.{read_name}
 use Rattle.stored.specs.Stored.{name_count_at}
-use Rattle.walk.specs.declared.Walked.{Walked}
-use Rattle.walk.specs.declared.Walked.TheVariants.{At, Bad}
 use Rattle.walk.specs.After.{after}
 use Rattle.layout.specs.Layout.{node_pool, nets, net_word_words, node_word, across, principal, node_of}
 use Rattle.marks.specs.Tests.{same, other, below, most, given, each}
@@ -37,9 +35,9 @@ node_holds ws t n =
     other k 0 (most k 16 (ports_hold ws t (principal n) k))
 
 -- something was read
-unfoldable pub is_read : Walked → Bool
-is_read (At at) = true
-is_read Bad = false
+unfoldable pub is_read : Option ℕ → Bool
+is_read (Some at) = true
+is_read None = false
 
 -- a name of a node, over so many paths and names, can be read at a place
 unfoldable pub name_stands : List ℕ → ℕ → ℕ → ℕ → Bool

@@ -1,5 +1,5 @@
 -- A name that stands at a place of the held file can be read there.
-use Rattle.std.specs.Prelude.{ℕ, zero, suc, ◌+◌, ◌*◌, ◌<◌, ◌≤◌, ◌≡◌, refl, true, List, length, get_or}
+use Rattle.std.specs.Prelude.{ℕ, zero, suc, ◌+◌, ◌*◌, ◌<◌, ◌≤◌, ◌≡◌, refl, true, List, length, get_or, Some}
 use Rattle.std.proofs.Common.{sym, ap, ◌∙◌, subst, arith, sub-one}
 use Rattle.net_file.specs.Values.{Name, FlatNet, File}
 use Rattle.net_file.specs.Read.{below, times, read_name}
@@ -8,24 +8,23 @@ use Rattle.fields.specs.Fields.{byte, be16}
 use Rattle.stored.specs.Stored.{list_end, name_end}
 use Rattle.readers_laws.specs.Parts as Parts
 use Rattle.readers_laws.specs.Bounds.{child_below}
-use Rattle.walk.specs.declared.Walked.{Walked}
-use Rattle.walk.specs.declared.Walked.TheVariants.{At}
 use Rattle.walk.specs.After.{after}
-use Rattle.walk.specs.Walk.{numbers_more, numbers_done, many_on, name_on}
+use Rattle.walk.specs.Loops.{times_next}
+use Rattle.walk.specs.Walk.{below_2, numbers_done, many_on, name_on}
 use Rattle.held_names.specs.Named.{Stands}
 use Rattle.image_slots.specs.Slots.{is_read, name_stands}
 
 -- k numbers below b
-numbers_pass : (s : List ℕ) (b k at : ℕ) → at + 2 * k ≤ length s → ((j : ℕ) → j < k → be16 s (at + 2 * j) < b) → At (at + 2 * k) ≡ after at (times k (below 2 b)) s
+numbers_pass : (s : List ℕ) (b k at : ℕ) → at + 2 * k ≤ length s → ((j : ℕ) → j < k → be16 s (at + 2 * j) < b) → Some (at + 2 * k) ≡ after at (times k (below 2 b)) s
 numbers_pass s b zero at l h = let z : at + 2 * 0 ≡ at = omega arith in rw z (numbers_done s b at 0 _ refl (omega arith) (omega arith))
 numbers_pass s b (suc k) at l h =
     let z : at + 2 * suc k ≡ at + 2 + 2 * k = omega arith in
     let y : at + 2 * 0 ≡ at = omega arith in
     let first : be16 s at < b = rw y at (h 0 (omega arith)) in
     rw z (numbers_pass s b k (at + 2) (omega arith) (λ j i. let x : at + 2 + 2 * j ≡ at + 2 * suc j = omega arith in rw x (h (suc j) (omega arith)))
-    ∙ rw sub-one at (numbers_more s b at (suc k) (be16 s at) _ refl (omega arith) (omega arith) refl first))
+    ∙ rw sub-one at (times_next (below 2 b) s at (at + 2) (suc k) (be16 s at) _ refl (omega arith) (omega arith) (below_2 s b at (omega arith) first) (omega arith)))
 
--- `name-stands` answers yes
+-- `name_stands` answers yes
 pub name_passes : (s : List ℕ) (f : File FlatNet) (a : ℕ) (n : Name) → Stands s f a n → (paths names : ℕ) → length f.paths ≡ paths → length f.names ≡ names
     → name_stands s paths names a ≡ true
 unfolding name_stands is_read name_end list_end

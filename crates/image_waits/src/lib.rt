@@ -1,5 +1,5 @@
 // The waits of an image: chains that share none. Marks: of wait c at c.
-#![tactic(auto)]
+#![tactic(auto, unfolding(crate::specs::Waits::wait_holds, crate::specs::Waits::is_wait, crate::specs::Waits::end_holds, crate::specs::Waits::idle, crate::specs::Waits::net_holds, words::specs::Choose::pick, words::specs::Choose::if_eq, words::specs::Choose::if_lt))]
 
 ghost use Rattle.std.specs.Prelude.{◌≡◌};
 ghost use Rattle.marks.specs.Walks.{each_with};
@@ -13,32 +13,22 @@ fn wait_holds(ws: &[u32], c: u32) -> bool
     ensures { result ≡ wait_holds ws.now c }
 {
     let t = layout::wait_word(ws, c, 1);
-    if t == 0 {
-        return false;
-    }
-    if t <= words::get(ws, layout::NETS) {
-        return layout::wait_word(ws, c, 0) < words::get(ws, layout::NODE_POOL);
-    }
-    false
+    t != 0
+        && t <= words::get(ws, layout::NETS)
+        && layout::wait_word(ws, c, 0) < words::get(ws, layout::NODE_POOL)
 }
 
 fn is_wait(ws: &[u32], marks: &[u8], c: u32) -> bool
     ensures { result ≡ is_wait ws.now marks.now c }
 {
-    if image_chains::is_new(ws, marks, Pool::Waits, c) {
-        return wait_holds(ws, c);
-    }
-    false
+    image_chains::is_new(ws, marks, Pool::Waits, c) && wait_holds(ws, c)
 }
 
 // A walk that has come to wait c, past `last`, is at the end of net t's.
 fn end_holds(ws: &[u32], t: NetId, c: u32, last: u32) -> bool
     ensures { result ≡ end_holds ws.now t.0 c last }
 {
-    if c == 0 {
-        return last == layout::net_word(ws, t, 9);
-    }
-    false
+    c == 0 && last == layout::net_word(ws, t, 9)
 }
 
 // The waits on net t from its first on, at most k.
@@ -47,16 +37,13 @@ fn waits_from(ws: &[u32], marks: &mut [u8], t: NetId, first: u32, k: u32) -> boo
 {
     let mut c = first;
     let mut last: u32 = 0;
-    let mut left = k;
-    while 0 < left {
-        if is_wait(ws, marks, c) {
-            marks::see(marks, c);
-            last = c;
-            c = layout::wait_word(ws, c, 2);
-            left -= 1;
-        } else {
+    for _ in 0..k {
+        if !is_wait(ws, marks, c) {
             return end_holds(ws, t, c, last);
         }
+        marks::see(marks, c);
+        last = c;
+        c = layout::wait_word(ws, c, 2);
     }
     end_holds(ws, t, c, last)
 }
@@ -65,10 +52,7 @@ fn waits_from(ws: &[u32], marks: &mut [u8], t: NetId, first: u32, k: u32) -> boo
 fn idle(ws: &[u32], t: NetId) -> bool
     ensures { result ≡ idle ws.now t.0 }
 {
-    if layout::net_word(ws, t, 7) == 0 {
-        return 0 < layout::net_word(ws, t, 8);
-    }
-    false
+    layout::net_word(ws, t, 7) == 0 && 0 < layout::net_word(ws, t, 8)
 }
 
 fn net_holds(ws: &[u32], marks: &mut [u8], t: NetId) -> bool
@@ -85,13 +69,8 @@ fn net_holds(ws: &[u32], marks: &mut [u8], t: NetId) -> bool
 pub fn each_net_holds(ws: &[u32], marks: &mut [u8], k: u32) -> bool
     ensures { (result ≡ (each_with (net_holds ws.now) marks.old 1 k).is) × (marks.new ≡ (each_with (net_holds ws.now) marks.old 1 k).ws) }
 {
-    let mut t: u32 = 1;
-    let mut left = k;
-    while 0 < left {
-        if net_holds(ws, marks, NetId(t)) {
-            t = layout::next(t);
-            left -= 1;
-        } else {
+    for i in 0..k {
+        if !net_holds(ws, marks, NetId(i + 1)) {
             return false;
         }
     }

@@ -1,11 +1,11 @@
 -- What a function of the crate leaves on each way out, and one turn of its loop, in the words of its tests and calls.
 use Rattle.std.specs.Prelude.{ℕ, zero, suc, ◌+◌, ◌-◌, ◌<◌, ◌≤◌, Bool, true, false, ◌≡◌, refl, List}
 use Rattle.std.proofs.Common.{◌∙◌, sym, not-suc-le-zero, sub-one}
-use Rattle.words.specs.Choose.{pick, if_eq, eq_yes, eq_no, pick_true, pick_false}
+use Rattle.words.specs.Choose.{if_eq, eq_yes, eq_no, pick_true, pick_false}
 use Rattle.words.specs.Left.{Left, whole}
 use Rattle.fields.specs.Fields.{byte, be16}
 use Rattle.stored.specs.Stored.{table_at, numbers_at, list_at}
-use Rattle.ends.specs.Ends.{within, on}
+use Rattle.ends.specs.Ends.{on}
 use Rattle.rule_sets.specs.Sets.{set_of, has, rule_at_words}
 use Rattle.rule_sets.specs.Places.{numbers_within, list_within}
 use Rattle.tried.specs.Tries.{on_tried}

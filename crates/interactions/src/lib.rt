@@ -34,9 +34,9 @@ fn registered(sets: &[u64], r: u32, p: u32, q: u32) -> bool
 fn stands_first(file: &[u8], at: usize, p: u32, q: u32) -> bool
     ensures { result ≡ first_of_words p q (list_at file.now at) }
 {
-    let mut left = fields::byte(file, at) as u32;
+    let count = fields::byte(file, at);
     let mut i = ends::on(file, at, 1);
-    while 0 < left {
+    for _ in 0..count {
         let path = fields::be16(file, i) as u32;
         if path == p {
             return true;
@@ -45,7 +45,6 @@ fn stands_first(file: &[u8], at: usize, p: u32, q: u32) -> bool
             return false;
         }
         i = ends::on(file, i, 2);
-        left -= 1;
     }
     true
 }

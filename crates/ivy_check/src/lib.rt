@@ -4,25 +4,25 @@
 
 ghost use Rattle.std.specs.Prelude.{◌≡◌};
 ghost use Rattle.net_file.specs.Checks.{flat, tree, read};
-ghost use Rattle.net_check.specs.Verdict.{number_of, verdict};
+ghost use Rattle.net_check.specs.Verdict.{number_of, refused_by};
 
-use net_check::Checked;
+use refusals::Refusal;
 
 // The number of an answer.
 #[tactic(auto, unfolding(net_check::specs::Verdict::number_of))]
-fn number(answer: Checked) -> u32
+fn number(answer: Result<(), Refusal>) -> u32
     ensures { result ≡ number_of answer }
 {
     match answer {
-        Checked::Accepted => 0,
-        Checked::Refused(n) => n as u32,
+        Ok(()) => 0,
+        Err(r) => r.number(),
     }
 }
 
 // A flat file: version 1.
 #[unsafe(no_mangle)]
 pub extern "C" fn ivy_check_flat(file: &[u8]) -> u32
-    ensures { result ≡ number_of (verdict (read flat file.now)) }
+    ensures { result ≡ refused_by (read flat file.now) }
 {
     number(net_check::check_flat(file))
 }
@@ -30,7 +30,7 @@ pub extern "C" fn ivy_check_flat(file: &[u8]) -> u32
 // A tree file: version 65.
 #[unsafe(no_mangle)]
 pub extern "C" fn ivy_check_tree(file: &[u8]) -> u32
-    ensures { result ≡ number_of (verdict (read tree file.now)) }
+    ensures { result ≡ refused_by (read tree file.now) }
 {
     number(net_check::check_tree(file))
 }

@@ -5,9 +5,10 @@
 ghost use Rattle.std.specs.Prelude.{◌≡◌, length};
 ghost use Rattle.conversions.specs.Calls.{pruned, to_flat_call, to_tree_call, resolve_flat_call, resolve_tree_call};
 ghost use Rattle.convert_frame.specs.Called.{long};
+ghost use Rattle.refusals.specs.Told.{told};
 ghost use Rattle.ivy_files_c.specs.Plain.{plain, Pruned, Called};
 
-use convert_frame::Converted;
+use refusals::Refusal;
 
 // The number of a refusal, or 0 and the length of the result.
 #[repr(C)]
@@ -18,16 +19,16 @@ pub struct IvyConverted {
 }
 
 #[tactic(auto, unfolding(crate::specs::Plain::plain))]
-fn plain(answer: Converted) -> IvyConverted
-    ensures { result ≡ plain answer }
+fn plain(answer: Result<usize, Refusal>) -> IvyConverted
+    ensures { result ≡ plain (told answer) }
 {
     match answer {
-        Converted::Written(n) => IvyConverted {
+        Ok(n) => IvyConverted {
             refusal: 0,
             length: n as u64,
         },
-        Converted::Refused(r) => IvyConverted {
-            refusal: r,
+        Err(r) => IvyConverted {
+            refusal: r.number(),
             length: 0,
         },
     }

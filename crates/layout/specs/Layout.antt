@@ -1,6 +1,6 @@
 -- The words by name: what stands where in an image. docs/IMAGE.md has the same as a table.
 -- Level Words: lists of numbers, read by `get_or` and written by `set`, so that every access has a meaning at every length.
-use Rattle.std.specs.Prelude.{ℕ, ◌+◌, ◌*◌, ◌/◌, ◌%◌, ◌^◌, Bool, List, ◌==◌, slice_index, slice_set}
+use Rattle.std.specs.Prelude.{ℕ, ◌+◌, ◌*◌, ◌/◌, ◌%◌, Bool, List, ◌==◌, slice_index, slice_set}
 use Rattle.words.specs.Choose.{if_lt}
 
 -- ---- numbers in a word

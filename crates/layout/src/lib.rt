@@ -8,7 +8,7 @@ ghost use Rattle.layout.specs.Layout.{next, less, net_by_name, net_at_words, net
 use kinds::{NetId, NodeId};
 
 // A port: the place of its word, 32 * node + 8 + index. Its word is the port across; a hole names itself.
-#[derive(Clone, Copy)]
+#[derive(Clone, Copy, PartialEq, Eq)]
 pub struct Port(pub u32);
 
 // Words of the header.

@@ -1,8 +1,8 @@
 // What the calls are lent: pools, words and bytes; and what they answer.
-#![tactic(auto)]
+#![tactic(auto, unfolding(crate::specs::Lent::between, crate::specs::Lent::pools_fit_words, crate::specs::Lent::words_of, crate::specs::Lent::room, crate::specs::Lent::held_length, crate::specs::Lent::zero_words, crate::specs::Lent::zero_bytes, words::specs::Choose::pick, words::specs::Choose::if_lt))]
 
 ghost use Rattle.std.specs.Prelude.{Bool, ◌≡◌};
-ghost use Rattle.lent.specs.Lent.{between, pools_fit_words, room, words_of, held_length, zero_words, zero_bytes};
+ghost use Rattle.lent.specs.Lent.{pools_fit_words, room, words_of, held_length, zero_words, zero_bytes};
 
 // What a call answers: its number where it is done (the steps deducted, the result's length, else 0), or by what it is refused.
 #[derive(Clone, Copy)]
@@ -21,25 +21,10 @@ pub struct Pools {
 
 // ---- what is lent
 
-fn between(x: u32, low: u32, high: u32) -> bool
-    ensures { result ≡ between x low high }
-{
-    if x < low {
-        return false;
-    }
-    x <= high
-}
-
 fn pools_fit(p: Pools) -> bool
     ensures { result ≡ pools_fit_words p }
 {
-    if between(p.nodes, 1, 4096) {
-        if between(p.entries, 1, 16384) {
-            return between(p.waits, 0, 4096);
-        }
-        return false;
-    }
-    false
+    (1..=4096).contains(&p.nodes) && (1..=16384).contains(&p.entries) && p.waits <= 4096
 }
 
 // The documented length in words.
@@ -53,10 +38,7 @@ pub fn words_of(p: Pools) -> usize
 pub fn room(p: Pools, ws: &[u32]) -> bool
     ensures { result ≡ room p ws.now }
 {
-    if pools_fit(p) {
-        return words_of(p) <= ws.len();
-    }
-    false
+    pools_fit(p) && words_of(p) <= ws.len()
 }
 
 // The length of the held file.
@@ -64,10 +46,7 @@ pub fn held_length(ws: &[u32], bs: &[u8]) -> usize
     ensures { result ≡ held_length ws.now bs.now }
 {
     let n = words::get(ws, layout::FILE_LENGTH) as usize;
-    if n < bs.len() {
-        return n;
-    }
-    bs.len()
+    n.min(bs.len())
 }
 
 // Words and bytes are zeros up to the documented length, for a file of so many bytes.

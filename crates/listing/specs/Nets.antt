@@ -1,6 +1,6 @@
 -- Each way out of the writers of nets, and of the whole text. A place past the end is moved to the end: what stands there is the same.
 use Prim.Native.Nat.{ℕ, zero, suc, ◌+◌, ◌-◌, ◌≤◌, ◌<◌}
-use Rattle.std.specs.Prelude.{◌≡◌, Bool, true, false, List, [], ◌∷◌, ◌++◌, map, length, eqb}
+use Rattle.std.specs.Prelude.{Some, None, ◌≡◌, Bool, true, false, List, [], ◌∷◌, ◌++◌, map, length, eqb}
 use Rattle.std.proofs.Math.Path.{refl, sym, ap}
 use Rattle.std.proofs.Common.{◌∙◌, append_assoc, not-suc-le-zero, eq-eqb, ne_eqb}
 use Rattle.std.proofs.Math.Option.{none, some}
@@ -17,7 +17,6 @@ use Rattle.stored.specs.Stored.{table_at, list_at, name_at, name_end, node_at, n
 use Rattle.stored.specs.Body.{paths_at, nets_at, body_at}
 use Rattle.ends.specs.Ends.{within, on, name_past, node_up, net_up, free_past, pairs_past}
 use Rattle.readers_laws.specs.Tables.{list_past, list_clamped}
-use Rattle.put.specs.declared.Put.TheVariants.{At, Full}
 use Rattle.put.specs.Written.{Written}
 use Rattle.put.specs.Laws.{full, placed, put_in_yes}
 use Rattle.text_writers.specs.Wrote.{far, Wrote, then, wrote_as, Still, still_on, still_none}
@@ -191,10 +190,10 @@ refused_written n p q r out m x w t u v = then t (then u v)
 
 -- all or none: n is the length that was found out, in a slice x of its own
 module _ (bs x y out : List ℕ) (n : ℕ) (t : Wrote bs 0 x y n) where
-  pub no_room : length out < n → Written bs 0 out out Full
+  pub no_room : length out < n → Written bs 0 out out None
   no_room h = let e = t.is in full (record { is = refl }) (omega arith)
 
-  pub room : (w : List ℕ) (r : ℕ) → n ≤ length out → length out < far → Wrote bs 0 out w r → Written bs 0 out w (At n)
+  pub room : (w : List ℕ) (r : ℕ) → n ≤ length out → length out < far → Wrote bs 0 out w r → Written bs 0 out w (Some n)
   room w r h l u =
       let e = t.is in
       let k : length bs ≡ n = omega arith in

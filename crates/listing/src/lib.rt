@@ -13,20 +13,16 @@ ghost use Rattle.text_writers.specs.Wrote.{Wrote};
 ghost use Rattle.listing.specs.Lines.{spaced, name_text, children_text, principal_text, ports_text, net_text, free_text, nodes_text, nets_text, limit_text};
 
 use kinds::PathId;
-use put::Put;
 
 // Each number of a list with a space before it.
 fn list(out: &mut [u8], from: usize, s: &[u8], at: usize) -> usize
     ensures { Wrote (spaced (map decimal (list_at s.now at))) from out.old out.new result }
 {
     let mut p = from;
-    let mut j: u32 = 0;
-    let mut k = reader::list_count(s, at);
-    while 0 < k {
+    let k = reader::list_count(s, at);
+    for j in 0..k {
         let v = readers::be16_on(s, at, 1 + 2 * (j as usize));
         p = text_writers::number(out, p, v as u64);
-        j += 1;
-        k -= 1;
     }
     p
 }
@@ -36,13 +32,10 @@ fn path_at(out: &mut [u8], from: usize, s: &[u8], at: usize) -> usize
     ensures { Wrote (path_at s.now at) from out.old out.new result }
 {
     let mut p = from;
-    let mut j: u32 = 0;
-    let mut k = fields::byte(s, at);
-    while 0 < k {
-        let b = readers::path_byte(s, at, j);
+    let k = fields::byte(s, at);
+    for j in 0..k {
+        let b = readers::path_byte(s, at, j as u32);
         p = text_writers::byte(out, p, b);
-        j += 1;
-        k -= 1;
     }
     p
 }
@@ -107,11 +100,9 @@ fn nodes(out: &mut [u8], from: usize, s: &[u8], first: usize, n: u16) -> usize
 {
     let mut p = from;
     let mut at = first;
-    let mut k = n;
-    while 0 < k {
+    for _ in 0..n {
         p = node(out, p, s, at);
         at = ends::node_end(s, at);
-        k -= 1;
     }
     p
 }
@@ -151,11 +142,9 @@ fn nets(out: &mut [u8], from: usize, s: &[u8], first: usize, n: u16) -> usize
 {
     let mut p = from;
     let mut at = first;
-    let mut k = n;
-    while 0 < k {
+    for _ in 0..n {
         p = net(out, p, s, at);
         at = ends::flat_net_end(s, at);
-        k -= 1;
     }
     p
 }
@@ -183,16 +172,16 @@ fn whole(out: &mut [u8], s: &[u8]) -> usize
 }
 
 // The text at the start of a lent slice, all of it or none. Its length is found out first, by writing it where there is no room.
-pub fn listing(file: &[u8], out: &mut [u8]) -> Put
+pub fn listing(file: &[u8], out: &mut [u8]) -> Option<usize>
     ensures { Written (listing (body_at flat_net_at flat_net_end file.now)) 0 out.old out.new result }
 {
     let mut none = [0u8; 1];
     let n = whole(&mut none, file);
     if out.len() < n {
-        return Put::Full;
+        return None;
     }
     whole(out, file);
-    Put::At(n)
+    Some(n)
 }
 
 // What is printed of a refusal, as far as there is room, and its length.
@@ -205,14 +194,14 @@ fn refusal(out: &mut [u8], number: u32) -> usize
 }
 
 // The same at the start of a lent slice, all of it or none.
-pub fn refused(number: u32, out: &mut [u8]) -> Put
+pub fn refused(number: u32, out: &mut [u8]) -> Option<usize>
     ensures { Written (printed (refuse number)) 0 out.old out.new result }
 {
     let mut none = [0u8; 1];
     let n = refusal(&mut none, number);
     if out.len() < n {
-        return Put::Full;
+        return None;
     }
     refusal(out, number);
-    Put::At(n)
+    Some(n)
 }

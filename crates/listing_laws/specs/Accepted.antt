@@ -1,5 +1,5 @@
 -- Of an accepted file, what `listing` writes is the text of what was read: document 01's, by the definitions of program netlist.
-use Rattle.std.specs.Prelude.{ℕ, ◌≡◌, List}
+use Rattle.std.specs.Prelude.{Option, ℕ, ◌≡◌, List}
 use Rattle.std.proofs.Common.{sym, ap, ◌∙◌}
 use Rattle.net_file.specs.Lists.{ok}
 use Rattle.net_file.specs.Values.{FlatNet, File}
@@ -8,7 +8,6 @@ use Rattle.definitions.specs.Listing.{listing, printed}
 use Rattle.stored.specs.Stored.{flat_net_at, flat_net_end}
 use Rattle.stored.specs.Parts.{stands_net}
 use Rattle.stored.specs.Body.{body_at}
-use Rattle.put.specs.declared.Put.{Put}
 use Rattle.put.specs.Written.{Written}
 use Rattle.readers_laws.specs.Reads.{read_stands}
 
@@ -17,6 +16,6 @@ module _ (s : List ℕ) (f : File FlatNet) (e : read flat s ≡ ok f) where
   listing_read = ap listing (sym (read_stands flat flat_net_at flat_net_end s (stands_net s) f e))
 
   -- what the function's contract says, for a file that is read
-  pub listing_accepted : (out w : List ℕ) (r : Put) → Written (listing (body_at flat_net_at flat_net_end s)) 0 out w r → Written (printed (read flat s)) 0 out w r
+  pub listing_accepted : (out w : List ℕ) (r : Option ℕ) → Written (listing (body_at flat_net_at flat_net_end s)) 0 out w r → Written (printed (read flat s)) 0 out w r
   unfolding printed
   listing_accepted out w r p = rw (e, ← listing_read) p

@@ -1,8 +1,7 @@
 -- What a function of the crate leaves on each way out, and one turn of each loop, in the words of its tests and calls.
-use Rattle.std.specs.Prelude.{ℕ, zero, suc, ◌+◌, ◌-◌, ◌<◌, ◌≤◌, ◌≡◌, refl, List, Bool, true, false, get_or, set}
+use Rattle.std.specs.Prelude.{ℕ, zero, suc, ◌+◌, ◌-◌, ◌<◌, ◌≤◌, ◌≡◌, refl, List, true, false, get_or, set}
 use Rattle.std.proofs.Common.{◌∙◌, sym, ap, get_or-set_other, not-suc-le-zero, sub-one, arith}
 use Rattle.words.specs.Choose.{eq_yes, eq_no}
-use Rattle.words.specs.Left.{Left}
 use Rattle.layout.specs.Layout.{next, net_at_words, net_word_words, set_net_word, node_word, set_node_word, dirty_at, entry_at, entry_word, set_entry_word}
 use Rattle.graph.specs.Graph.{grown}
 use Rattle.graph.specs.Ways.{set_back, grown_room}

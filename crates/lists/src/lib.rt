@@ -121,15 +121,14 @@ fn close(ws: &mut [u32], t: NetId, w: Walk)
 fn sweep(ws: &mut [u32], t: NetId)
     ensures { ws.new ≡ sweep ws.old t.0 }
 {
-    let mut k = layout::net_word(ws, t, 4);
+    let k = layout::net_word(ws, t, 4);
     let mut w = Walk {
         entry: layout::net_word(ws, t, 2),
         last: 0,
         kept: 0,
     };
-    while 0 < k {
+    for _ in 0..k {
         w = sift(ws, t, w);
-        k -= 1;
     }
     close(ws, t, w)
 }
@@ -138,13 +137,12 @@ fn sweep(ws: &mut [u32], t: NetId)
 fn restore(ws: &mut [u32], t: NetId)
     ensures { ws.new ≡ restore ws.old t.0 }
 {
-    let mut k = layout::net_word(ws, t, 4);
+    let k = layout::net_word(ws, t, 4);
     let mut c = layout::net_word(ws, t, 2);
-    while 0 < k {
+    for _ in 0..k {
         let n = NodeId(layout::entry_word(ws, c, 0));
         layout::set_node_word(ws, n, 0, t.0);
         c = layout::entry_word(ws, c, 1);
-        k -= 1;
     }
 }
 
@@ -179,11 +177,9 @@ fn sweep_dirty(ws: &mut [u32])
     ensures { ws.new ≡ sweep_dirty ws.old }
 {
     let length = words::get(ws, layout::DIRTY_LENGTH);
-    let mut i: u32 = 0;
     let mut kept: u32 = 0;
-    while i < length {
+    for i in 0..length {
         kept = keep_dirty(ws, i, kept);
-        i += 1;
     }
     words::put(ws, layout::DIRTY_LENGTH, kept);
     words::put(ws, layout::DIRTY_STALE, 0)
@@ -202,10 +198,8 @@ fn restore_dirty(ws: &mut [u32])
     ensures { ws.new ≡ restore_dirty ws.old }
 {
     let length = words::get(ws, layout::DIRTY_LENGTH);
-    let mut i: u32 = 0;
-    while i < length {
+    for i in 0..length {
         dirty_again(ws, i);
-        i += 1;
     }
 }
 

@@ -59,8 +59,7 @@ fn add_rest(
     ensures { (result ≡ (add_nodes ws.old wires.old file.now t.0 from count).is) × (ws.new ≡ (add_nodes ws.old wires.old file.now t.0 from count).ws) × (wires.new ≡ (add_nodes ws.old wires.old file.now t.0 from count).wires) }
 {
     let mut at = from;
-    let mut left = count;
-    while 0 < left {
+    for _ in 0..count {
         let e = ends::name_end(file, at);
         let end = ends::wires_end(file, e);
         let r = add_node(ws, wires, file, t, at, e);
@@ -68,24 +67,17 @@ fn add_rest(
             return r;
         }
         at = end;
-        left -= 1;
     }
     0
 }
 
 // ---- nodes that stand in the file as a whole: no byte is tested for
 
-fn wide(x: u8) -> u16
-    ensures { (result ≡ x) × (result < 256) }
-{
-    x as u16
-}
-
 fn wire(file: &[u8], at: usize) -> u16
     requires { at + 2 ≤ length file.now }
     ensures { result ≡ be16 file.now at }
 {
-    256 * wide(file[at]) + wide(file[at + 1])
+    u16::from_be_bytes([file[at], file[at + 1]])
 }
 
 // The number of aux wires, where the name ends at e.
@@ -93,7 +85,7 @@ fn aux_count(file: &[u8], e: usize) -> u16
     requires { e + 3 ≤ length file.now }
     ensures { (result ≡ byte file.now (e + 2)) × (result < 256) }
 {
-    wide(file[e + 2])
+    file[e + 2] as u16
 }
 
 fn after_wires(file: &[u8], e: usize) -> usize
@@ -109,12 +101,10 @@ fn join_there(ws: &mut [u32], wires: &mut [u32], file: &[u8], from: usize, p: Po
 {
     let mut at = from;
     let mut port = p;
-    let mut left = k;
-    while 0 < left {
+    for _ in 0..k {
         wire_ends::join_wire(ws, wires, wire(file, at) as u32, port);
         at += 2;
         port = layout::next_port(port);
-        left -= 1;
     }
 }
 
@@ -155,18 +145,16 @@ fn add_nodes(
     ensures { (result ≡ (add_nodes ws.old wires.old file.now t.0 from count).is) × (ws.new ≡ (add_nodes ws.old wires.old file.now t.0 from count).ws) × (wires.new ≡ (add_nodes ws.old wires.old file.now t.0 from count).wires) }
 {
     let mut at = from;
-    let mut left = count;
-    while 0 < left {
+    for i in 0..count {
         let e = ends::whole_node(file, at);
         if e == 0 {
-            return add_rest(ws, wires, file, t, at, left);
+            return add_rest(ws, wires, file, t, at, count - i);
         }
         let r = add_whole(ws, wires, file, t, at, e);
         if 0 < r {
             return r;
         }
         at = after_wires(file, e);
-        left -= 1;
     }
     0
 }
@@ -235,19 +223,12 @@ fn add_wired(ws: &mut [u32], wires: &mut [u32], file: &[u8], t: NetId, at: usize
     add_all(ws, wires, file, t, at)
 }
 
-// Room for every wire of a file.
-fn add_large(ws: &mut [u32], file: &[u8], t: NetId, at: usize) -> u32
-    ensures { (result ≡ (add_sized 65536 ws.old file.now t.0 at).is) × (ws.new ≡ (add_sized 65536 ws.old file.now t.0 at).ws) }
+// By a table for so many wires.
+fn add_sized<const WIRES: usize>(ws: &mut [u32], file: &[u8], t: NetId, at: usize) -> u32
+    requires { WIRES ≤ 65536 }
+    ensures { (result ≡ (add_sized WIRES ws.old file.now t.0 at).is) × (ws.new ≡ (add_sized WIRES ws.old file.now t.0 at).ws) }
 {
-    let mut wires = [0u32; 65536];
-    add_wired(ws, &mut wires, file, t, at)
-}
-
-// Room for the wires of most nets: quicker to clear.
-fn add_small(ws: &mut [u32], file: &[u8], t: NetId, at: usize) -> u32
-    ensures { (result ≡ (add_sized 1024 ws.old file.now t.0 at).is) × (ws.new ≡ (add_sized 1024 ws.old file.now t.0 at).ws) }
-{
-    let mut wires = [0u32; 1024];
+    let mut wires = [0u32; WIRES];
     add_wired(ws, &mut wires, file, t, at)
 }
 
@@ -263,15 +244,15 @@ fn new_net(ws: &mut [u32], file: &[u8], at: usize) -> NetId
     NetId(t)
 }
 
-// The net at a place.
+// The net at a place. A table of 65,536 has room for every wire of a file; 1,024 have room for those of most nets, and are quicker to clear.
 fn add_flat_net(ws: &mut [u32], file: &[u8], at: usize) -> u32
     ensures { (result ≡ (add_flat_net_words ws.old file.now at).is) × (ws.new ≡ (add_flat_net_words ws.old file.now at).ws) }
 {
     let t = new_net(ws, file, at);
     if net_readers::net_wires(file, at) <= 1024 {
-        return add_small(ws, file, t, at);
+        return add_sized::<1024>(ws, file, t, at);
     }
-    add_large(ws, file, t, at)
+    add_sized::<65536>(ws, file, t, at)
 }
 
 fn add_if_included(ws: &mut [u32], file: &[u8], at: usize) -> u32
@@ -288,14 +269,12 @@ fn add_flat_nets(ws: &mut [u32], file: &[u8], from: usize, count: u32) -> u32
     ensures { (result ≡ (add_flat_nets ws.old file.now from count).is) × (ws.new ≡ (add_flat_nets ws.old file.now from count).ws) }
 {
     let mut at = from;
-    let mut left = count;
-    while 0 < left {
+    for i in 0..count {
         let r = add_if_included(ws, file, at);
         if 0 < r {
             return r;
         }
-        at = ends::next_net(file, at, left);
-        left -= 1;
+        at = ends::next_net(file, at, count - i);
     }
     0
 }

@@ -1,3 +1,4 @@
 pub mod Tests
+pub mod Ranges
 pub mod Marks
 pub mod Walks

@@ -1,8 +1,5 @@
 -- Chains of tests, each of which may refuse: what an image's conditions are made of. Level Words.
-use Prim.Native.Nat.{ℕ, zero, suc, ◌-◌, ◌<◌, ◌≤◌}
-use Rattle.std.specs.Prelude.{◌≡◌, Bool, true, false}
-use Rattle.std.proofs.Math.Path.{sym}
-use Rattle.std.proofs.Common.{ap, ◌∙◌, sub-one, not-suc-le-zero}
+use Rattle.std.specs.Prelude.{ℕ, zero, suc, Bool, true, false}
 use Rattle.words.specs.Choose.{if_eq, if_lt, pick}
 use Rattle.layout.specs.Layout.{next}
 
@@ -30,22 +27,3 @@ given t rest = pick t rest false
 unfoldable pub each : (ℕ → Bool) → ℕ → ℕ → Bool
 each test i zero = true
 each test i (suc k) = given (test i) (each test (next i) k)
-
-module _ (test : ℕ → Bool) (i : ℕ) (t x : Bool) where
-  -- one that passes
-  pub each_more : (j k : ℕ) → each test i k ≡ x → 0 < k → t ≡ test i → t ≡ true → j ≡ next i → each test j (k - 1) ≡ x
-  unfolding each pick
-  each_more j zero e h et y ej = absurd (not-suc-le-zero h)
-  each_more j (suc k) e h et y ej = rw (sub-one, ej) (sym (ap (λ u. pick u (each test (next i) k) false) (sym et ∙ y)) ∙ e)
-
-  -- one that does not
-  pub each_no : (k : ℕ) → each test i k ≡ x → 0 < k → t ≡ test i → t ≡ false → false ≡ x
-  unfolding each pick
-  each_no zero e h et y = absurd (not-suc-le-zero h)
-  each_no (suc k) e h et y = sym (ap (λ u. pick u (each test (next i) k) false) (sym et ∙ y)) ∙ e
-
--- none is left
-pub each_done : (test : ℕ → Bool) (i k : ℕ) (x : Bool) → each test i k ≡ x → k ≤ 0 → true ≡ x
-unfolding each
-each_done test i zero x e h = e
-each_done test i (suc k) x e h = absurd (not-suc-le-zero h)

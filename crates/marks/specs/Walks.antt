@@ -1,8 +1,8 @@
 -- Walks that leave marks: what is answered, and the marks then. `Left` holds both. Level Words.
-use Prim.Native.Nat.{ℕ, zero, suc, ◌-◌, ◌<◌, ◌≤◌}
+use Prim.Native.Nat.{ℕ, zero, suc, ◌+◌, ◌-◌, ◌<◌, ◌≤◌}
 use Rattle.std.specs.Prelude.{◌≡◌, Bool, true, false, List, eqb}
 use Rattle.std.proofs.Math.Path.{refl}
-use Rattle.std.proofs.Common.{sym, ap, ◌∙◌, sub-one, not-suc-le-zero}
+use Rattle.std.proofs.Common.{arith, sym, ◌∙◌, sub-one, not-suc-le-zero}
 use Rattle.words.specs.Choose.{if_eq, pick, eq_yes, eq_no, pick_true, pick_false}
 use Rattle.words.specs.Left.{Left}
 use Rattle.layout.specs.Layout.{next}
@@ -33,6 +33,16 @@ module _ (test : List ℕ → ℕ → Left Bool) (marks m : List ℕ) (i : ℕ) 
   unfolding each_with
   each_with_more j zero e h et em y ej = absurd (not-suc-le-zero h)
   each_with_more j (suc k) e h et em y ej = rw (sub-one, ej, em) (pick_true _ _ _ (sym et ∙ y) refl ∙ e)
+
+  -- the same, where no number wraps
+  pub each_with_next : (j k : ℕ) → each_with test marks i k ≡ x → 0 < k → t ≡ (test marks i).is → m ≡ (test marks i).ws → t ≡ true → j ≡ i + 1 → i + k ≤ 4294967296
+      → each_with test m j (k - 1) ≡ x
+  unfolding each_with
+  each_with_next j zero e h et em y ej b = absurd (not-suc-le-zero h)
+  each_with_next j (suc zero) e h et em y ej b = rw em (pick_true _ _ _ (sym et ∙ y) refl ∙ e)
+  each_with_next j (suc (suc k)) e h et em y ej b =
+      let on : j ≡ next i = omega arith in
+      rw (sub-one, on, em) (pick_true _ _ _ (sym et ∙ y) refl ∙ e)
 
   pub each_with_no : (k : ℕ) → each_with test marks i k ≡ x → 0 < k → t ≡ (test marks i).is → m ≡ (test marks i).ws → t ≡ false → says false m ≡ x
   unfolding each_with

@@ -37,15 +37,5 @@ pub fn see(marks: &mut [u8], c: u32)
 pub fn all_met(marks: &[u8], from: u32, k: u32) -> bool
     ensures { result ≡ all_met marks.now from k }
 {
-    let mut i = from;
-    let mut left = k;
-    while 0 < left {
-        if met(marks, i) {
-            i = layout::next(i);
-            left -= 1;
-        } else {
-            return false;
-        }
-    }
-    true
+    (0..k).all(|i| met(marks, from.wrapping_add(i)))
 }

@@ -51,12 +51,9 @@ fn slots_size(ws: &[u32], file: &[u8]) -> Size
     ensures { result ≡ slots_size ws.now file.now }
 {
     let mut size = Size { nodes: 0, bytes: 0 };
-    let mut n: u32 = 0;
-    let mut left = words::get(ws, layout::FRESH_SLOT);
-    while 0 < left {
+    let used = words::get(ws, layout::FRESH_SLOT);
+    for n in 0..used {
         size = with_slot(ws, file, NodeId(n), size);
-        n = layout::next(n);
-        left -= 1;
     }
     size
 }
@@ -91,11 +88,9 @@ fn nets_size(file: &[u8], from: usize, count: u32, start: Size) -> Size
 {
     let mut at = from;
     let mut size = start;
-    let mut left = count;
-    while 0 < left {
+    for i in 0..count {
         size = with_net(file, at, size);
-        at = ends::next_net(file, at, left);
-        left -= 1;
+        at = ends::next_net(file, at, count - i);
     }
     size
 }

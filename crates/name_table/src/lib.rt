@@ -27,13 +27,9 @@ pub fn name_places(s: &[u8], from: usize, n: u16, names: &mut [usize])
     ensures { names.new ≡ name_places s.now names.old from 0 n }
 {
     let mut at = from;
-    let mut i: usize = 0;
-    let mut k = n;
-    while 0 < k {
+    for i in 0..n as usize {
         put(names, i, at);
         at = ends::name_end(s, at);
-        i += 1;
-        k -= 1;
     }
 }
 
@@ -42,12 +38,10 @@ pub fn net_places(s: &[u8], from: usize, n: u16, nets: &mut [usize])
     ensures { nets.new ≡ net_places s.now nets.old from n }
 {
     let mut at = from;
-    let mut k = n;
-    while 0 < k {
+    for _ in 0..n {
         let i = fields::be16(s, at) as usize;
         put(nets, i, at);
         at = ends::flat_net_end(s, at);
-        k -= 1;
     }
 }
 
@@ -55,16 +49,12 @@ pub fn net_places(s: &[u8], from: usize, n: u16, nets: &mut [usize])
 pub fn sort_names(s: &[u8], names: &[usize], n: u16, sorted: &mut [usize], numbers: &mut [usize])
     ensures { (sorted.new ≡ sorted_part s.now names.now sorted.old numbers.old n) × (numbers.new ≡ number_part s.now names.now sorted.old numbers.old n) }
 {
-    let mut m: usize = 0;
-    let mut k = n;
-    while 0 < k {
+    for m in 0..n as usize {
         let at = get(names, m);
         let z = repeats::item_size(s, at, Item::Name);
         let p = repeats::search(s, sorted, m, at, z);
         repeats::insert(sorted, m, p, at);
         repeats::insert(numbers, m, p, m);
-        m += 1;
-        k -= 1;
     }
 }
 

@@ -1,10 +1,10 @@
 -- Checks 6, 7 and 8 in their order, by offsets; on a body that is read they are what level File says (`later-exact`).
-use Rattle.std.specs.Prelude.{ℕ, ◌+◌, ◌≡◌, Bool, true, false, not, ◌&&◌, List, map}
+use Rattle.std.specs.Prelude.{Ok, Err, ℕ, ◌≡◌, Bool, true, false, not, ◌&&◌, List, map}
 use Rattle.std.proofs.Math.Path.{refl}
-use Rattle.std.proofs.Common.{sym, ap, ◌∙◌}
+use Rattle.std.proofs.Common.{sym, ◌∙◌}
 use Rattle.std.proofs.Math.Option.{some}
 use Rattle.words.specs.Choose.{pick, pick_true, pick_false}
-use Rattle.net_file.specs.Lists.{need, ok, refuse, all, any, distinct, eqs, ascend}
+use Rattle.net_file.specs.Lists.{need, ok, all, any, distinct, eqs, ascend}
 use Rattle.net_file.specs.Values.{File}
 use Rattle.net_file.specs.Checks.{Version, same_name, names_free, ordered, wired, free_named, checked}
 use Rattle.fields.specs.Fields.{be16}
@@ -15,13 +15,12 @@ use Rattle.orders_tree.specs.Names.{names_from}
 use Rattle.wiring_nets.specs.Nets as flatly
 use Rattle.wiring_tree_nets.specs.Nets as treely
 use Rattle.checks.specs.Checks as offset
-use Rattle.net_check.specs.declared.Checked.{Checked}
-use Rattle.net_check.specs.declared.Checked.TheVariants.{Accepted, Refused}
-use Rattle.net_check.specs.Verdict.{verdict}
+use Rattle.refusals.specs.declared.Refusal.TheVariants.{BadOrder, BadWiring, FreePathNamed}
+use Rattle.net_check.specs.Verdict.{Checked, verdict}
 
 -- tables differ, nets are ordered, nets are wired, a rule names the free path
 unfoldable pub later : Bool → Bool → Bool → Bool → Checked
-later differ order wire free = pick differ (pick order (pick wire (pick free (Refused 8) Accepted) (Refused 7)) (Refused 6)) (Refused 6)
+later differ order wire free = pick differ (pick order (pick wire (pick free (Err FreePathNamed) (Ok tt)) (Err BadWiring)) (Err BadOrder)) (Err BadOrder)
 
 -- with the order and the wiring of the version's nets, which stand after the net count
 unfoldable pub later_by : (List ℕ → ℕ → ℕ → Bool) → (List ℕ → ℕ → ℕ → Bool) → List ℕ → Checked
@@ -38,7 +37,7 @@ tree_later s = later_by (names_from 0) treely.nets_wired s
 -- ---- each way out
 
 module _ (order wire : List ℕ → ℕ → ℕ → Bool) (s : List ℕ) (d : Bool) (ed : d ≡ offset.tables_differ s) where
-  pub later_tables : d ≡ false → Refused 6 ≡ later_by order wire s
+  pub later_tables : d ≡ false → Err BadOrder ≡ later_by order wire s
   unfolding later_by later
   later_tables f = pick_false _ _ _ (sym ed ∙ f) refl
 
@@ -47,7 +46,7 @@ module _ (order wire : List ℕ → ℕ → ℕ → Bool) (s : List ℕ) (d : Bo
     order_is : o ≡ order s (on s (within s (net_count_at s)) 2) (be16 s (within s (net_count_at s)))
     order_is = eo ∙ rw (ef, en, eq)
 
-    pub later_order : o ≡ false → Refused 6 ≡ later_by order wire s
+    pub later_order : o ≡ false → Err BadOrder ≡ later_by order wire s
     unfolding later_by later
     later_order f = pick_true _ _ _ (sym ed ∙ yd) (pick_false _ _ _ (sym order_is ∙ f) refl)
 
@@ -55,17 +54,17 @@ module _ (order wire : List ℕ → ℕ → ℕ → Bool) (s : List ℕ) (d : Bo
       wire_is : w ≡ wire s (on s (within s (net_count_at s)) 2) (be16 s (within s (net_count_at s)))
       wire_is = ew ∙ rw (ef, en, eq)
 
-      pub later_wire : w ≡ false → Refused 7 ≡ later_by order wire s
+      pub later_wire : w ≡ false → Err BadWiring ≡ later_by order wire s
       unfolding later_by later
       later_wire f = pick_true _ _ _ (sym ed ∙ yd) (pick_true _ _ _ (sym order_is ∙ yo) (pick_false _ _ _ (sym wire_is ∙ f) refl))
 
       module _ (n' : Bool) (yw : w ≡ true) (en' : n' ≡ offset.free_named s) where
-        pub later_free : n' ≡ true → Refused 8 ≡ later_by order wire s
+        pub later_free : n' ≡ true → Err FreePathNamed ≡ later_by order wire s
         unfolding later_by later
         later_free f =
             pick_true _ _ _ (sym ed ∙ yd) (pick_true _ _ _ (sym order_is ∙ yo) (pick_true _ _ _ (sym wire_is ∙ yw) (pick_true _ _ _ (sym en' ∙ f) refl)))
 
-        pub later_none : n' ≡ false → Accepted ≡ later_by order wire s
+        pub later_none : n' ≡ false → Ok tt ≡ later_by order wire s
         unfolding later_by later
         later_none f =
             pick_true _ _ _ (sym ed ∙ yd) (pick_true _ _ _ (sym order_is ∙ yo) (pick_true _ _ _ (sym wire_is ∙ yw) (pick_false _ _ _ (sym en' ∙ f) refl)))
@@ -73,7 +72,7 @@ module _ (order wire : List ℕ → ℕ → ℕ → Bool) (s : List ℕ) (d : Bo
 -- ---- what they mean
 
 -- where tables and nets are in order, 7 and 8 decide
-wired_and_free : {A : Type 0} (x : A) (w n : Bool) → pick w (pick n (Refused 8) Accepted) (Refused 7) ≡ verdict (need w 7 (need (not n) 8 (ok x)))
+wired_and_free : {A : Type 0} (x : A) (w n : Bool) → pick w (pick n (Err FreePathNamed) (Ok tt)) (Err BadWiring) ≡ verdict (need w 7 (need (not n) 8 (ok x)))
 unfolding pick verdict
 wired_and_free x true true = refl
 wired_and_free x true false = refl
@@ -84,7 +83,7 @@ as_checked : {A : Type 0} (x : A) (paths names nets pairs wire free w n : Bool) 
     → later (paths && names) (nets && pairs) wire free ≡ verdict (need (paths && names && nets && pairs) 6 (need w 7 (need (not n) 8 (ok x))))
 unfolding later pick verdict
 as_checked x true true true true wire free w n hw hn =
-    (λ i. pick (hw refl i) (pick (hn refl i) (Refused 8) Accepted) (Refused 7)) ∙ wired_and_free x w n
+    (λ i. pick (hw refl i) (pick (hn refl i) (Err FreePathNamed) (Ok tt)) (Err BadWiring)) ∙ wired_and_free x w n
 as_checked x true true true false wire free w n hw hn = refl
 as_checked x true true false pairs wire free w n hw hn = refl
 as_checked x true false nets pairs wire free w n hw hn = refl

@@ -1,22 +1,16 @@
-// Whether a net file is accepted, or the number by which it is refused: the checks 2 to 8 in their order, each over the whole
+// Whether a net file is accepted, or by what it is refused: the checks 2 to 8 in their order, each over the whole
 // file before the next. Nothing is written, whatever the bytes are.
 #![tactic(auto)]
 
 ghost use Rattle.std.specs.Prelude.{◌≡◌};
 ghost use Rattle.net_file.specs.Checks.{flat, tree, read};
-ghost use Rattle.net_check.specs.Verdict.{verdict};
+ghost use Rattle.net_check.specs.Verdict.{number_of, refused_by, verdict};
 ghost use Rattle.net_check.specs.Later.{flat_later, tree_later};
 
-use walk::Walked;
-
-#[derive(Clone, Copy)]
-pub enum Checked {
-    Accepted,
-    Refused(u8),
-}
+use refusals::Refusal;
 
 // Checks 6, 7 and 8 of a flat file whose bytes were read.
-fn flat_later(s: &[u8]) -> Checked
+fn flat_later(s: &[u8]) -> Result<(), Refusal>
     ensures { result ≡ flat_later s.now }
 {
     if checks::tables_differ(s) {
@@ -26,33 +20,30 @@ fn flat_later(s: &[u8]) -> Checked
         if orders::nets_ordered(s, from, n) {
             if wiring_nets::nets_wired(s, from, n) {
                 if checks::free_named(s) {
-                    return Checked::Refused(8);
+                    return Err(Refusal::FreePathNamed);
                 }
-                return Checked::Accepted;
+                return Ok(());
             }
-            return Checked::Refused(7);
+            return Err(Refusal::BadWiring);
         }
     }
-    Checked::Refused(6)
+    Err(Refusal::BadOrder)
 }
 
 // A flat file: version 1.
-pub fn check_flat(s: &[u8]) -> Checked
-    ensures { result ≡ verdict (read flat s.now) }
+pub fn check_flat(s: &[u8]) -> Result<(), Refusal>
+    ensures is { result ≡ verdict (read flat s.now) }
+    ensures number { number_of result ≡ refused_by (read flat s.now) }
 {
-    let h = head::head(s, 1);
-    if h != 0 {
-        return Checked::Refused(h);
-    }
-    let b = body_flat::flat_body(s);
-    match b {
-        Walked::At(_) => flat_later(s),
-        Walked::Bad => Checked::Refused(5),
+    head::head(s, 1)?;
+    match body_flat::flat_body(s) {
+        Some(_) => flat_later(s),
+        None => Err(Refusal::BadBody),
     }
 }
 
 // Checks 6, 7 and 8 of a tree file whose bytes were read.
-fn tree_later(s: &[u8]) -> Checked
+fn tree_later(s: &[u8]) -> Result<(), Refusal>
     ensures { result ≡ tree_later s.now }
 {
     if checks::tables_differ(s) {
@@ -62,27 +53,24 @@ fn tree_later(s: &[u8]) -> Checked
         if orders_tree::names_ascend(s, from, n) {
             if wiring_tree_nets::nets_wired(s, from, n) {
                 if checks::free_named(s) {
-                    return Checked::Refused(8);
+                    return Err(Refusal::FreePathNamed);
                 }
-                return Checked::Accepted;
+                return Ok(());
             }
-            return Checked::Refused(7);
+            return Err(Refusal::BadWiring);
         }
     }
-    Checked::Refused(6)
+    Err(Refusal::BadOrder)
 }
 
 // A tree file: version 65.
-pub fn check_tree(s: &[u8]) -> Checked
-    ensures { result ≡ verdict (read tree s.now) }
+pub fn check_tree(s: &[u8]) -> Result<(), Refusal>
+    ensures is { result ≡ verdict (read tree s.now) }
+    ensures number { number_of result ≡ refused_by (read tree s.now) }
 {
-    let h = head::head(s, 65);
-    if h != 0 {
-        return Checked::Refused(h);
-    }
-    let b = body_tree::tree_body(s);
-    match b {
-        Walked::At(_) => tree_later(s),
-        Walked::Bad => Checked::Refused(5),
+    head::head(s, 65)?;
+    match body_tree::tree_body(s) {
+        Some(_) => tree_later(s),
+        None => Err(Refusal::BadBody),
     }
 }

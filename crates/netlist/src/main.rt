@@ -5,7 +5,6 @@ ghost use Rattle.put.specs.Written.{Written};
 ghost use Rattle.netlist.specs.Said.{listed, said};
 
 use lent::Answer;
-use put::Put;
 use std::array;
 use std::io::{self, Read};
 
@@ -27,7 +26,7 @@ const LARGEST_TEXT: usize = 131072;
 
 // The text of the result, the first n bytes.
 #[tactic(auto, unfolding(crate::specs::Said::listed))]
-fn listed(res: &[u8], n: usize, text: &mut [u8]) -> Put
+fn listed(res: &[u8], n: usize, text: &mut [u8]) -> Option<usize>
     ensures { Written (listed res.now n) 0 text.old text.new result }
 {
     if n < res.len() {
@@ -38,7 +37,7 @@ fn listed(res: &[u8], n: usize, text: &mut [u8]) -> Put
 
 // What is printed of an answer.
 #[tactic(auto, unfolding(crate::specs::Said::said))]
-fn say(answer: Answer, res: &[u8], text: &mut [u8]) -> Put
+fn say(answer: Answer, res: &[u8], text: &mut [u8]) -> Option<usize>
     ensures { Written (said answer res.now) 0 text.old text.new result }
 {
     match answer {
@@ -47,7 +46,7 @@ fn say(answer: Answer, res: &[u8], text: &mut [u8]) -> Put
     }
 }
 
-fn optimized(file: &[u8], text: &mut [u8]) -> Put {
+fn optimized(file: &[u8], text: &mut [u8]) -> Option<usize> {
     let mut words: [u32; WORKSPACE] = array::repeat(0);
     let mut copy: [u8; LARGEST_FILE] = array::repeat(0);
     let mut result: [u8; LARGEST_RESULT] = array::repeat(0);
@@ -71,10 +70,10 @@ fn print_front(rt: &impl Print, text: &[u8], n: usize) -> io::Result<()> {
 }
 
 // Where there is no room for a text, which cannot be, nothing is printed but 15.
-fn print(rt: &impl Print, text: &[u8], put: Put) -> io::Result<()> {
-    match put {
-        Put::At(n) => print_front(rt, text, n),
-        Put::Full => println!(rt; "refused 15"),
+fn print(rt: &impl Print, text: &[u8], length: Option<usize>) -> io::Result<()> {
+    match length {
+        Some(n) => print_front(rt, text, n),
+        None => println!(rt; "refused 15"),
     }
 }
 
@@ -91,9 +90,9 @@ fn main(rt: HostRuntime) -> io::Result<()> {
     let mut text: [u8; LARGEST_TEXT] = array::repeat(0);
     let n = input::read_full(&mut stdin, &mut file)?;
     if n == LARGEST_FILE && has_more(&mut stdin)? {
-        let put = listing::refused(2, &mut text);
-        return print(&rt, &text, put);
+        let length = listing::refused(2, &mut text);
+        return print(&rt, &text, length);
     }
-    let put = optimized(&file[..n], &mut text);
-    print(&rt, &text, put)
+    let length = optimized(&file[..n], &mut text);
+    print(&rt, &text, length)
 }

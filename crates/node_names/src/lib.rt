@@ -29,23 +29,14 @@ fn same_children(file: &[u8], x: u32, y: u32, k: u32) -> bool
 {
     let mut a = x as usize + 11;
     let mut b = y as usize + 11;
-    let mut left = k;
-    while 0 < left {
-        if fields::be16(file, a) == fields::be16(file, b) {
-            a += 2;
-            b += 2;
-            left -= 1;
-        } else {
+    for _ in 0..k {
+        if fields::be16(file, a) != fields::be16(file, b) {
             return false;
         }
+        a += 2;
+        b += 2;
     }
     true
-}
-
-fn wide(x: u8) -> u32
-    ensures { (result ≡ x) × (result < 256) }
-{
-    x as u32
 }
 
 // Four bytes that are there, and three.
@@ -53,14 +44,14 @@ fn four(s: &[u8], at: usize) -> u32
     requires { at + 4 ≤ length s.now }
     ensures { (result ≡ be32 s.now at) × (byte s.now (at + 3) < 256) }
 {
-    16777216 * wide(s[at]) + 65536 * wide(s[at + 1]) + 256 * wide(s[at + 2]) + wide(s[at + 3])
+    u32::from_be_bytes([s[at], s[at + 1], s[at + 2], s[at + 3]])
 }
 
 fn three(s: &[u8], at: usize) -> u32
     requires { at + 3 ≤ length s.now }
     ensures { result ≡ 65536 * byte s.now at + 256 * byte s.now (at + 1) + byte s.now (at + 2) }
 {
-    65536 * wide(s[at]) + 256 * wide(s[at + 1]) + wide(s[at + 2])
+    u32::from_be_bytes([0, s[at], s[at + 1], s[at + 2]])
 }
 
 // Path, payload and the number of children, which are there: eleven bytes as four, four and three.

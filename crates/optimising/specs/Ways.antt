@@ -1,23 +1,22 @@
 -- What a function of the crate leaves on each way out, in the words of its tests and calls.
-use Rattle.std.specs.Prelude.{ℕ, ◌<◌, ◌≤◌, Bool, true, false, ◌≡◌, refl, List, length}
+use Rattle.std.specs.Prelude.{Ok, Err, ℕ, ◌<◌, ◌≤◌, Bool, true, false, ◌≡◌, refl, List, length}
 use Rattle.net_file.specs.Checks.{flat, read}
-use Rattle.net_check.specs.Verdict.{verdict}
-use Rattle.net_check.specs.declared.Checked.{Checked}
-use Rattle.net_check.specs.declared.Checked.TheVariants.{Accepted}
-use Rattle.net_check.specs.declared.Checked.TheVariants.{Refused as Checked-as-Refused}
+use Rattle.refusals.specs.declared.Refusal.{Refusal}
+use Rattle.refusals.specs.Numbers.{number}
+use Rattle.net_check.specs.Verdict.{Checked, verdict}
 use Rattle.words.specs.Choose.{eq_yes, eq_no, lt_yes, lt_no, pick_true, pick_false}
 use Rattle.run_slice.specs.Run.{on_ran}
 use Rattle.run_slice.specs.Run.{slice as run_slice}
 use Rattle.run_slice.specs.declared.Ran.{Ran}
 use Rattle.run_slice.specs.declared.Ran.TheVariants.{Rested}
 use Rattle.run_slice.specs.declared.Ran.TheVariants.{Refused as Ran-as-Refused}
-use Rattle.write_nodes.specs.Wrote.{Wrote, whole}
+use Rattle.write_nodes.specs.Wrote.{whole}
 use Rattle.lent.specs.Lent.{room, zero_words, zero_bytes}
 use Rattle.lent.specs.declared.Pools.{Pools}
 use Rattle.lent.specs.declared.Answer.{Answer}
 use Rattle.lent.specs.declared.Answer.TheVariants.{Refused}
 use Rattle.begin.specs.Begin.{loaded, on_checked}
-use Rattle.finishing.specs.Finishing.{Given, given, run_result}
+use Rattle.finishing.specs.Finishing.{given, run_result}
 use Rattle.optimising.specs.Optimising.{optimize_run, optimize_loaded, optimize_file, optimize_checked, optimize}
 
 pub run_finished : (ws w x file out o : List ℕ) (s : ℕ) (r : Ran) (a : Answer) → r ≡ (run_slice ws file 4294967295).is → w ≡ (run_slice ws file 4294967295).ws → r ≡ Rested s
@@ -47,16 +46,16 @@ pub file_optimized : (p : Pools) (ws w x bs b file out o : List ℕ) (a : Answer
 unfolding optimize_file
 file_optimized p ws w x bs b file out o a ea ew eo ex eb = rw (ex, eb, ew, ea, eo)
 
-pub file_accepted : (p : Pools) (ws w bs b file out o : List ℕ) (c : Checked) (a : Answer) → c ≡ verdict (read flat file) → c ≡ Accepted
+pub file_accepted : (p : Pools) (ws w bs b file out o : List ℕ) (c : Checked) (a : Answer) → c ≡ verdict (read flat file) → c ≡ Ok tt
     → a ≡ (optimize_file p ws bs file out).is → w ≡ (optimize_file p ws bs file out).ws → b ≡ (optimize_file p ws bs file out).bs → o ≡ (optimize_file p ws bs file out).out
     → record { is = a; ws = w; bs = b; out = o } ≡ optimize_checked p ws bs file out
 unfolding optimize_checked on_checked
 file_accepted p ws w bs b file out o c a ec e ea ew eb eo = rw (← ec, e) (given (optimize_file p ws bs file out) ea ew eb eo)
 
-pub file_refused : (p : Pools) (ws bs file out : List ℕ) (c : Checked) (r : ℕ) → c ≡ verdict (read flat file) → c ≡ Checked-as-Refused r
+pub file_refused : (p : Pools) (ws bs file out : List ℕ) (c : Checked) (e : Refusal) (r : ℕ) → c ≡ verdict (read flat file) → c ≡ Err e → r ≡ number e
     → record { is = Refused r; ws = ws; bs = bs; out = out } ≡ optimize_checked p ws bs file out
 unfolding optimize_checked on_checked
-file_refused p ws bs file out c r ec e = rw (← ec, e)
+file_refused p ws bs file out c e r ec h er = rw (← ec, h, er)
 
 pub optimize_checks : (p : Pools) (ws w bs b file out o : List ℕ) (t : Bool) (a : Answer) → t ≡ room p ws → t ≡ true → length file ≤ length bs
     → a ≡ (optimize_checked p ws bs file out).is → w ≡ (optimize_checked p ws bs file out).ws → b ≡ (optimize_checked p ws bs file out).bs → o ≡ (optimize_checked p ws bs file out).out

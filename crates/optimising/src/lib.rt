@@ -5,7 +5,6 @@ ghost use Rattle.std.specs.Prelude.{◌≡◌};
 ghost use Rattle.optimising.specs.Optimising.{optimize_run, optimize_loaded, optimize_file, optimize_checked, optimize};
 
 use lent::{Answer, Pools};
-use net_check::Checked;
 use run_slice::Ran;
 
 // A loaded file: one slice of none, then the result.
@@ -45,8 +44,8 @@ fn optimize_checked(p: Pools, ws: &mut [u32], bs: &mut [u8], file: &[u8], out: &
 {
     let checked = net_check::check_flat(file);
     match checked {
-        Checked::Accepted => optimize_file(p, ws, bs, file, out),
-        Checked::Refused(r) => Answer::Refused(r as u32),
+        Ok(()) => optimize_file(p, ws, bs, file, out),
+        Err(r) => Answer::Refused(r.number()),
     }
 }
 

@@ -1,5 +1,5 @@
 -- `result-is-engine`: the one-call form on lent words, bytes and output answers what level Engine's does, writes its bytes, and leaves
-use Rattle.std.specs.Prelude.{ℕ, ◌<◌, ◌≡◌, Bool, true, false, ◌&&◌, List, length}
+use Rattle.std.specs.Prelude.{Ok, Err, ℕ, ◌<◌, ◌≡◌, Bool, true, false, ◌&&◌, List, length}
 use Rattle.std.proofs.Math.Path.{refl, ap, subst}
 use Rattle.std.proofs.Common.{sym, ◌∙◌, leb-true, leb-false}
 use Rattle.std.proofs.Math.Option.{Option}
@@ -8,9 +8,9 @@ use Rattle.net_file.specs.Lists.{Result, ok, refuse, need}
 use Rattle.net_file.specs.Values.{FlatNet, File}
 use Rattle.net_file.specs.Checks.{flat, read}
 use Rattle.net_file_laws.specs.Bytes.{Bytes}
-use Rattle.net_check.specs.Verdict.{verdict}
-use Rattle.net_check.specs.declared.Checked.TheVariants.{Accepted}
-use Rattle.net_check.specs.declared.Checked.TheVariants.{Refused as Checked-as-Refused}
+use Rattle.refusals.specs.Numbers.{by}
+use Rattle.refusals.specs.Told.{Numbered}
+use Rattle.net_check.specs.Verdict.{verdict, read_numbered}
 use Rattle.definitions.specs.Lists.{◌>>=◌}
 use Rattle.definitions.specs.Calls
 use Rattle.definitions.specs.Calls.{Held, Left, unchanged, zeros, image, Outcome, pools_fit, accept, deliver, optimized, written}
@@ -34,11 +34,11 @@ module _ (q : Lent.Pools) (ws bs s out : List ℕ) (is : Bytes s) (size : length
       ])
   unfolding verdict
   checked_gives h (refuse n) e =
-      subst (λ (x : Given). Outcomes q ws bs out x (refuse n, unchanged)) (file_refused q ws bs s out (Checked-as-Refused n) n (ap verdict (sym e)) refl) ((refused q ws bs s out is size) n)
+      subst (λ (x : Given). Outcomes q ws bs out x (refuse n, unchanged)) (file_refused q ws bs s out (Err (by n)) (by n) n (ap verdict (sym e)) refl (sym (subst Numbered e (read_numbered flat s)))) ((refused q ws bs s out is size) n)
   checked_gives h (ok f) e =
       let x = optimize_file q ws bs s out in
       subst (λ (y : Given). Outcomes q ws bs out y (optimized (pools_of q) f >>= deliver (length out), zeros (length s)))
-      (file_accepted q ws x.ws bs x.bs s out x.out Accepted x.is (ap verdict (sym e)) refl refl refl refl refl) ((file_gives q ws bs s out is size) f e h)
+      (file_accepted q ws x.ws bs x.bs s out x.out (Ok tt) x.is (ap verdict (sym e)) refl refl refl refl refl) ((file_gives q ws bs s out is size) f e h)
 
   -- 1
   all_gives : (t u : Bool) → room q ws ≡ t → leb (length s) (length bs) ≡ u

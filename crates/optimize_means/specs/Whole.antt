@@ -10,8 +10,6 @@ use Rattle.net_file.specs.Values.{FlatNet, File}
 use Rattle.net_file.specs.Checks.{flat, read}
 use Rattle.net_file_laws.specs.Bytes.{Bytes}
 use Rattle.net_check.specs.Verdict.{verdict}
-use Rattle.net_check.specs.declared.Checked.TheVariants.{Accepted}
-use Rattle.net_check.specs.declared.Checked.TheVariants.{Refused as Checked-as-Refused}
 use Rattle.definitions.specs.Lists.{◌>>=◌}
 use Rattle.definitions.specs.Calls
 use Rattle.definitions.specs.Calls.{Held, Left, unchanged, zeros, image, Outcome, pools_fit, accept, deliver, optimized, written}

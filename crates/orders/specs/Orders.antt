@@ -8,8 +8,10 @@ use Rattle.stored.specs.Stored.{flat_net_end}
 use Rattle.ends.specs.Ends.{within}
 use Rattle.wiring.specs.Wiring.{net_pairs}
 use Rattle.wiring.specs.Fits.{fits}
-use Rattle.orders.specs.declared.Told.{Told}
-use Rattle.orders.specs.declared.Told.TheVariants.{Ordered, Not, Wide}
+use Rattle.wiring.specs.Tells.{by_told}
+use Rattle.wiring.specs.declared.Told.{Told}
+use Rattle.wiring.specs.declared.Told.TheVariants.{Well, Not, Wide}
+use Rattle.orders.specs.declared.Rest.{Rest}
 
 -- w was seen since the base
 unfoldable pub marked : List ℕ → ℕ → ℕ → Bool
@@ -54,22 +56,16 @@ net_ordered counts base last s at =
     (record { is = false; ws = counts })
 
 -- how far n nets are told by the counts, each above a base of its own: all are in order, one is not, or those from a place on do not fit
-unfoldable pub told : List ℕ → ℕ → ℕ → List ℕ → ℕ → ℕ → Left Told
-told counts base last s at zero = record { is = Ordered; ws = counts }
+unfoldable pub told : List ℕ → ℕ → ℕ → List ℕ → ℕ → ℕ → Left (Told Rest)
+told counts base last s at zero = record { is = Well; ws = counts }
 told counts base last s at (suc n) =
     let x = net_ordered counts base last s at in
     let r = told x.ws (base + 4) (be16 s at + 1) s (within s (flat_net_end s at)) n in
-    pick (fits counts s at) (pick x.is r (record { is = Not; ws = x.ws })) (record { is = Wide last at (suc n); ws = counts })
-
--- of the nets that do not fit, `wide` tells
-unfoldable pub by_told : (ℕ → ℕ → ℕ → Bool) → Told → Bool
-by_told wide Ordered = true
-by_told wide Not = false
-by_told wide (Wide last at k) = wide last at k
+    pick (fits counts s at) (pick x.is r (record { is = Not; ws = x.ws })) (record { is = Wide (record { last = last; at = at; left = suc n }); ws = counts })
 
 -- n nets, with these counts and then with `wide`
 unfoldable pub nets_from : (ℕ → ℕ → ℕ → Bool) → List ℕ → ℕ → ℕ → List ℕ → ℕ → ℕ → Bool
-nets_from wide counts base last s at n = by_told wide (told counts base last s at n).is
+nets_from wide counts base last s at n = by_told (λ r. wide r.last r.at r.left) (told counts base last s at n).is
 
 -- at most 256 nets, 65,536 words: no net that is read has more wires
 unfoldable pub nets_wide : List ℕ → ℕ → ℕ → ℕ → Bool

@@ -1,8 +1,8 @@
 -- Each way out of the loops of check 6.
-use Prim.Native.Nat.{ℕ, zero, suc, ◌+◌, ◌*◌, ◌-◌, ◌/◌, ◌<◌, ◌≤◌}
+use Prim.Native.Nat.{ℕ, zero, suc, ◌+◌, ◌*◌, ◌-◌, ◌<◌, ◌≤◌}
 use Rattle.std.specs.Prelude.{◌≡◌, Bool, List, length, get_or, replicate, leb, ltb}
 use Rattle.std.proofs.Math.Path.{refl, ap}
-use Rattle.std.proofs.Common.{sym, ◌∙◌, arith, sub-one, not-suc-le-zero}
+use Rattle.std.proofs.Common.{sym, ◌∙◌, sub-one, not-suc-le-zero}
 use Rattle.std.proofs.Math.Bool.{true, false}
 use Rattle.words.specs.Choose.{pick, lt_yes, lt_no, pick_true, pick_false}
 use Rattle.words.specs.Left.{Left, whole}
@@ -11,9 +11,11 @@ use Rattle.stored.specs.Stored.{table_at, pair_at, pairs_at, pair_count_at, flat
 use Rattle.ends.specs.Ends.{within, on, next_net, next_is}
 use Rattle.wiring.specs.Wiring.{pair_run, net_pairs}
 use Rattle.wiring.specs.Fits.{fits}
-use Rattle.orders.specs.Orders.{marked, mark, pair_fits, pair_step, pairs_from, name_fits, net_ordered, told, by_told, nets_from, nets_wide, nets_ordered}
-use Rattle.orders.specs.declared.Told.{Told}
-use Rattle.orders.specs.declared.Told.TheVariants.{Ordered, Not, Wide}
+use Rattle.orders.specs.Orders.{marked, mark, pair_fits, pair_step, pairs_from, name_fits, net_ordered, told, nets_from, nets_wide, nets_ordered}
+use Rattle.wiring.specs.Tells.{by_told, by_tests}
+use Rattle.wiring.specs.declared.Told.{Told}
+use Rattle.wiring.specs.declared.Told.TheVariants.{Well, Not, Wide}
+use Rattle.orders.specs.declared.Rest.{Rest}
 
 -- ---- one pair
 
@@ -33,19 +35,13 @@ module _ (counts : List ℕ) (base last a b : ℕ) (t : Bool) (et : t ≡ pair_f
 -- ---- pairs
 
 module _ (s counts : List ℕ) (base from n : ℕ) where
-  none : length s < from + 4 * n → record { is = true; ws = counts } ≡ pairs_from counts base 0 (pair_run s from n)
+  pub pairs_none : length s < from + 4 * n → record { is = true; ws = counts } ≡ pairs_from counts base 0 (pair_run s from n)
   unfolding pair_run pairs_from
-  none h = ap (pairs_from counts base 0) (lt_yes _ _ _ _ h refl)
+  pairs_none h = ap (pairs_from counts base 0) (lt_yes _ _ _ _ h refl)
 
-  pub pairs_past : length s < from → record { is = true; ws = counts } ≡ pairs_from counts base 0 (pair_run s from n)
-  pairs_past h = none (omega arith)
-
-  pub pairs_short : from ≤ length s → (length s - from) / 4 < n → record { is = true; ws = counts } ≡ pairs_from counts base 0 (pair_run s from n)
-  pairs_short i h = none (omega arith)
-
-  pub pairs_start : from ≤ length s → n ≤ (length s - from) / 4 → pairs_from counts base 0 (pairs_at s from n) ≡ pairs_from counts base 0 (pair_run s from n)
+  pub pairs_start : from + 4 * n ≤ length s → pairs_from counts base 0 (pairs_at s from n) ≡ pairs_from counts base 0 (pair_run s from n)
   unfolding pair_run
-  pairs_start i h = ap (pairs_from counts base 0) (lt_no _ _ _ _ (omega arith) refl)
+  pairs_start h = ap (pairs_from counts base 0) (lt_no _ _ _ _ h refl)
 
 module _ (s counts c : List ℕ) (base last at a b : ℕ) (x : Left Bool) (t : Bool) where
   pub pairs_more : (k : ℕ) → pairs_from counts base last (pairs_at s at k) ≡ x → 0 < k → a ≡ be16 s at → b ≡ be16 s (at + 2)
@@ -93,14 +89,6 @@ module _ (s counts : List ℕ) (base last at : ℕ) (t : Bool) (et : t ≡ name_
 
 -- ---- nets
 
--- by the two tests of a net: whether it fits, and whether it is in order
-by_tests : (wide : ℕ → ℕ → ℕ → Bool) (f t : Bool) (r : Left Told) (c counts : List ℕ) (last at k : ℕ)
-    → by_told wide (pick f (pick t r (record { is = Not; ws = c })) (record { is = Wide last at k; ws = counts })).is ≡ pick f (pick t (by_told wide r.is) false) (wide last at k)
-unfolding pick by_told
-by_tests wide true true r c counts last at k = refl
-by_tests wide true false r c counts last at k = refl
-by_tests wide false t r c counts last at k = refl
-
 pub nets_zero : (wide : ℕ → ℕ → ℕ → Bool) (counts : List ℕ) (base last : ℕ) (s : List ℕ) (at : ℕ) → nets_from wide counts base last s at 0 ≡ true
 unfolding nets_from told by_told
 nets_zero wide counts base last s at = refl
@@ -110,11 +98,11 @@ pub nets_suc : (wide : ℕ → ℕ → ℕ → Bool) (counts : List ℕ) (base l
     ≡ pick (fits counts s at) (pick (net_ordered counts base last s at).is (nets_from wide (net_ordered counts base last s at).ws (base + 4) (be16 s at + 1) s (within s (flat_net_end s at)) n) false)
     (wide last at (suc n))
 unfolding nets_from told
-nets_suc wide counts base last s at n = by_tests wide (fits counts s at) (net_ordered counts base last s at).is _ (net_ordered counts base last s at).ws counts last at (suc n)
+nets_suc wide counts base last s at n = by_tests (λ r. wide r.last r.at r.left) (fits counts s at) (net_ordered counts base last s at).is _ (net_ordered counts base last s at).ws counts (record { last = last; at = at; left = suc n })
 
-module _ (s counts : List ℕ) (base last at : ℕ) (x : Left Told) (f : Bool) (ef : f ≡ fits counts s at) where
+module _ (s counts : List ℕ) (base last at : ℕ) (x : Left (Told Rest)) (f : Bool) (ef : f ≡ fits counts s at) where
   -- a net that does not fit
-  pub told_unfit : (k : ℕ) → told counts base last s at k ≡ x → 0 < k → f ≡ false → record { is = Wide last at k; ws = counts } ≡ x
+  pub told_unfit : (k : ℕ) → told counts base last s at k ≡ x → 0 < k → f ≡ false → record { is = Wide (record { last = last; at = at; left = k }); ws = counts } ≡ x
   unfolding told
   told_unfit zero g h n = absurd (not-suc-le-zero h)
   told_unfit (suc k) g h n = pick_false _ _ _ (sym ef ∙ n) refl ∙ g
@@ -132,7 +120,7 @@ module _ (s counts : List ℕ) (base last at : ℕ) (x : Left Told) (f : Bool) (
     told_not zero g h z = absurd (not-suc-le-zero h)
     told_not (suc k) g h z = rw ec (pick_true _ _ _ (sym ef ∙ y) (pick_false _ _ _ (sym et ∙ z) refl) ∙ g)
 
-pub told_done : (s counts : List ℕ) (base last at k : ℕ) (x : Left Told) → told counts base last s at k ≡ x → k ≤ 0 → record { is = Ordered; ws = counts } ≡ x
+pub told_done : (s counts : List ℕ) (base last at k : ℕ) (x : Left (Told Rest)) → told counts base last s at k ≡ x → k ≤ 0 → record { is = Well; ws = counts } ≡ x
 unfolding told
 told_done s counts base last at zero x g h = g
 told_done s counts base last at (suc k) x g h = absurd (not-suc-le-zero h)
@@ -156,28 +144,37 @@ module _ (s : List ℕ) (at n : ℕ) where
 
 -- ---- with 65,536 words, and with 1,024
 
-module _ (s : List ℕ) (last at n : ℕ) (r : Told) (h : n ≤ 256) (er : r ≡ (told (replicate 65536 0) 0 last s at n).is) where
-  pub wide_ordered : r ≡ Ordered → true ≡ nets_wide s last at n
-  unfolding nets_from by_told
-  wide_ordered e = rw (← er, e) at (wide_start s at n last h)
+none_well : (r : Told Rest) → (r ≡ Well → ⊥) → by_told (λ r. false) r ≡ false
+unfolding by_told
+none_well Well e = absurd (e refl)
+none_well Not e = refl
+none_well (Wide q) e = refl
 
-  pub wide_not : r ≡ Not → false ≡ nets_wide s last at n
-  unfolding nets_from by_told
-  wide_not e = rw (← er, e) at (wide_start s at n last h)
+module _ (s : List ℕ) (last at n : ℕ) (r : Told Rest) (h : n ≤ 256) (er : r ≡ (told (replicate 65536 0) 0 last s at n).is) where
+  wide_is : by_told (λ r. false) r ≡ nets_wide s last at n
+  unfolding nets_from
+  wide_is = rw (← er) at (wide_start s at n last h)
 
-  pub wide_wide : (l a k : ℕ) → r ≡ Wide l a k → false ≡ nets_wide s last at n
-  unfolding nets_from by_told
-  wide_wide l a k e = rw (← er, e) at (wide_start s at n last h)
+  pub wide_well : r ≡ Well → true ≡ nets_wide s last at n
+  unfolding by_told
+  wide_well e = rw e at wide_is
 
-module _ (s : List ℕ) (at n : ℕ) (r : Told) (h : n ≤ 256) (er : r ≡ (told (replicate 1024 0) 0 0 s at n).is) where
-  pub nets_all : r ≡ Ordered → true ≡ nets_ordered s at n
-  unfolding nets_from by_told
-  nets_all e = rw (← er, e) at (nets_start s at n h)
+  pub wide_rest : (r ≡ Well → ⊥) → false ≡ nets_wide s last at n
+  wide_rest e = sym (none_well r e) ∙ wide_is
+
+module _ (s : List ℕ) (at n : ℕ) (r : Told Rest) (h : n ≤ 256) (er : r ≡ (told (replicate 1024 0) 0 0 s at n).is) where
+  ordered_is : by_told (λ r. nets_wide s r.last r.at r.left) r ≡ nets_ordered s at n
+  unfolding nets_from
+  ordered_is = rw (← er) at (nets_start s at n h)
+
+  pub nets_all : r ≡ Well → true ≡ nets_ordered s at n
+  unfolding by_told
+  nets_all e = rw e at ordered_is
 
   pub nets_not : r ≡ Not → false ≡ nets_ordered s at n
-  unfolding nets_from by_told
-  nets_not e = rw (← er, e) at (nets_start s at n h)
+  unfolding by_told
+  nets_not e = rw e at ordered_is
 
-  pub nets_wide_lem : (l a k : ℕ) (b : Bool) → r ≡ Wide l a k → b ≡ nets_wide s l a k → b ≡ nets_ordered s at n
-  unfolding nets_from by_told
-  nets_wide_lem l a k b e eb = eb ∙ (rw (← er, e) at (nets_start s at n h))
+  pub nets_wide_lem : (q : Rest) (b : Bool) → r ≡ Wide q → b ≡ nets_wide s q.last q.at q.left → b ≡ nets_ordered s at n
+  unfolding by_told
+  nets_wide_lem q b e eb = eb ∙ rw e at ordered_is

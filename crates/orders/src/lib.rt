@@ -8,6 +8,8 @@ ghost use Rattle.fields.specs.Fields.{be16};
 ghost use Rattle.wiring.specs.Wiring.{pair_run, net_pairs};
 ghost use Rattle.orders.specs.Orders.{marked, mark, pair_fits, pair_step, pairs_from, name_fits, net_ordered, told, nets_wide, nets_ordered};
 
+use wiring::Told;
+
 // Whether a wire was seen.
 fn marked(counts: &[u32], base: u16, w: u16) -> bool
     ensures { result ≡ marked counts.now base w }
@@ -57,25 +59,19 @@ fn pair_step(counts: &mut [u32], base: u16, last: u32, a: u16, b: u16) -> bool
 pub fn pairs_run(counts: &mut [u32], base: u16, s: &[u8], from: usize, n: u32) -> bool
     ensures { (result ≡ (pairs_from counts.old base 0 (pair_run s.now from n)).is) × (counts.new ≡ (pairs_from counts.old base 0 (pair_run s.now from n)).ws) }
 {
-    if s.len() < from {
-        return true;
-    }
-    if (s.len() - from) / 4 < n as usize {
+    if !wiring::there(s, from, n, 4) {
         return true;
     }
     let mut at = from;
     let mut last: u32 = 0;
-    let mut k = n;
-    while 0 < k {
+    for _ in 0..n {
         let a = fields::be16(s, at);
         let b = fields::be16(s, at + 2);
-        if pair_step(counts, base, last, a, b) {
-            last = a as u32 + 1;
-            at += 4;
-            k -= 1;
-        } else {
+        if !pair_step(counts, base, last, a, b) {
             return false;
         }
+        last = a as u32 + 1;
+        at += 4;
     }
     true
 }
@@ -115,39 +111,36 @@ fn net_ordered(counts: &mut [u32], base: u16, last: u32, s: &[u8], at: usize) ->
     false
 }
 
-// How far nets are told by the words at hand: all are in order, one is not, or the nets from a place on, so many, need more words, where
-// the names before are below a number.
+// The nets that are left: so many, from a place on, where the names before are below a number.
 #[derive(Clone, Copy)]
-pub enum Told {
-    Ordered,
-    Not,
-    Wide(u32, usize, u16),
+pub struct Rest {
+    pub last: u32,
+    pub at: usize,
+    pub left: u16,
 }
 
 // n nets, one after another, each above a base of its own.
-fn nets_told(counts: &mut [u32], s: &[u8], before: u32, from: usize, n: u16) -> Told
+// Not by the generic loop of check 7: this one carries a name from net to net, and hands it on with the nets that are left.
+fn nets_told(counts: &mut [u32], s: &[u8], before: u32, from: usize, n: u16) -> Told<Rest>
     requires { n ≤ 256 }
     ensures { (result ≡ (told counts.old 0 before s.now from n).is) × (counts.new ≡ (told counts.old 0 before s.now from n).ws) }
 {
     let mut at = from;
     let mut base: u16 = 0;
     let mut last: u32 = before;
-    let mut k = n;
-    while 0 < k {
-        if wiring::fits(counts, s, at) {
-            if net_ordered(counts, base, last, s, at) {
-                last = above_name(s, at);
-                at = ends::next_net(s, at, k as u32);
-                base += 4;
-                k -= 1;
-            } else {
-                return Told::Not;
-            }
-        } else {
-            return Told::Wide(last, at, k);
+    for i in 0..n {
+        let left = n - i;
+        if !wiring::fits(counts, s, at) {
+            return Told::Wide(Rest { last, at, left });
         }
+        if !net_ordered(counts, base, last, s, at) {
+            return Told::Not;
+        }
+        last = above_name(s, at);
+        at = ends::next_net(s, at, left as u32);
+        base += 4;
     }
-    Told::Ordered
+    Told::Well
 }
 
 // With a word for each wire that a net may have.
@@ -158,12 +151,7 @@ fn nets_wide(s: &[u8], before: u32, from: usize, n: u16) -> bool
         return false;
     }
     let mut counts = [0u32; 65536];
-    let told = nets_told(&mut counts, s, before, from, n);
-    match told {
-        Told::Ordered => true,
-        Told::Not => false,
-        Told::Wide(_, _, _) => false,
-    }
+    matches!(nets_told(&mut counts, s, before, from, n), Told::Well)
 }
 
 // With words for 1,024 wires, up to a net that may have more.
@@ -174,10 +162,9 @@ pub fn nets_ordered(s: &[u8], from: usize, n: u16) -> bool
         return false;
     }
     let mut counts = [0u32; 1024];
-    let told = nets_told(&mut counts, s, 0, from, n);
-    match told {
-        Told::Ordered => true,
+    match nets_told(&mut counts, s, 0, from, n) {
+        Told::Well => true,
         Told::Not => false,
-        Told::Wide(last, at, k) => nets_wide(s, last, at, k),
+        Told::Wide(rest) => nets_wide(s, rest.last, rest.at, rest.left),
     }
 }

@@ -10,16 +10,12 @@ pub fn names_ascend(s: &[u8], from: usize, n: u16) -> bool
 {
     let mut at = from;
     let mut last: u32 = 0;
-    let mut k = n;
-    while 0 < k {
-        if orders::name_fits(s, at, last) {
-            last = fields::be16(s, at) as u32 + 1;
-            let c = scan_tree::count_net(s, at);
-            at = c.end;
-            k -= 1;
-        } else {
+    for _ in 0..n {
+        if !orders::name_fits(s, at, last) {
             return false;
         }
+        last = fields::be16(s, at) as u32 + 1;
+        at = scan_tree::count_net(s, at).end;
     }
     true
 }

@@ -1,5 +1,5 @@
 -- The pairs of a flat net with its links resolved, and the whole net, by what stands at each place of the file and in the table by
--- wire; each way out of the writers; and that inside a file it is `writeFlatNet` (`net-inside`).
+-- wire; each way out of the writers; and that inside a file it is `write_flat_net` (`net_inside_lem`).
 use Prim.Native.Nat.{ℕ, zero, suc, ◌+◌, ◌*◌, ◌-◌, ◌≤◌, ◌<◌}
 use Rattle.std.specs.Prelude.{◌≡◌, refl, Bool, List, [], ◌∷◌, ◌++◌, get_or, eqb}
 use Rattle.std.proofs.Math.Path.{sym, ap}
@@ -8,12 +8,11 @@ use Rattle.std.proofs.Math.Bool.{true, false}
 use native.Mathlib.Omega.{arith}
 use Rattle.std.proofs.Math.ListN.{length}
 use Rattle.net_file.specs.Lists.{concat_map}
-use Rattle.net_file.specs.Values.{FlatNet}
 use Rattle.net_file.specs.Write.{be, counted, write_pair, write_head, write_flat_net}
 use Rattle.fields.specs.Fields.{byte, be16, be32}
-use Rattle.stored.specs.Stored.{table_at, table_end, list_at, pair_at, pairs_at, node_end, nodes_at, pair_count_at, node_count_at, flat_net_at, flat_net_end}
+use Rattle.stored.specs.Stored.{table_at, table_end, list_at, pair_at, pairs_at, node_end, pair_count_at, node_count_at, flat_net_at, flat_net_end}
 use Rattle.stored.specs.Laws.{table_steps}
-use Rattle.ends.specs.Ends.{within, on, node_up, table_up, pairs_past, nodes_past}
+use Rattle.ends.specs.Ends.{within, on, node_up, table_up}
 use Rattle.readers_laws.specs.Tables.{list_clamped}
 use Rattle.wire_marks.specs.Marks.{canon}
 use Rattle.wire_marks.specs.Along.{along, along_next, along_none, along_inside}

@@ -11,10 +11,7 @@ ghost use Rattle.pair_writers.specs.Pairs.{used, kept_bit, pair_bytes, pairs_fro
 fn kept(ws: &[u32], stamp: u16, a: u16) -> u16
     ensures { result ≡ kept_bit ws.now stamp a }
 {
-    if wire_places::occurs(ws, stamp, a) {
-        return 0;
-    }
-    1
+    !wire_places::occurs(ws, stamp, a) as u16
 }
 
 // How many of the pairs after their count stay.
@@ -22,14 +19,9 @@ fn kept_pairs(ws: &[u32], stamp: u16, s: &[u8], at: usize, n: u16) -> u16
     ensures { result ≡ length (unused_by (used ws.now stamp) (pairs_at s.now (at + (2 + 4 * 0)) n)) }
 {
     let mut c: u16 = 0;
-    let mut j: u32 = 0;
-    let mut k = n;
-    while 0 < k {
+    for j in 0..n {
         let a = readers::be16_on(s, at, 2 + 4 * (j as usize));
-        let b = kept(ws, stamp, a);
-        c += b;
-        j += 1;
-        k -= 1;
+        c += kept(ws, stamp, a);
     }
     c
 }
@@ -52,11 +44,9 @@ fn pairs(out: &mut [u8], at: usize, ws: &[u32], stamp: u16, s: &[u8], from: usiz
 {
     let mut p = at;
     let mut place = from;
-    let mut k = n;
-    while 0 < k {
+    for _ in 0..n {
         p = pair(out, p, ws, stamp, s, place);
         place = ends::on(s, place, 4);
-        k -= 1;
     }
     p
 }

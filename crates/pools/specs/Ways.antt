@@ -1,8 +1,7 @@
 -- What a function of the crate leaves on each way out, in the words of its tests and calls.
 use Rattle.std.specs.Prelude.{ℕ, ◌+◌, ◌*◌, ◌<◌, ◌≤◌, ◌≡◌, refl, List, get_or, set}
-use Rattle.std.proofs.Common.{sym}
-use Rattle.words.specs.Choose.{if_eq, if_lt, eq_yes, eq_no, lt_yes, lt_no}
-use Rattle.words.specs.Left.{Left, whole}
+use Rattle.words.specs.Choose.{eq_yes, eq_no, lt_yes, lt_no}
+use Rattle.words.specs.Left.{whole}
 use Rattle.layout.specs.Layout.{next, less, node_word, entry_word, wait_word}
 use Rattle.pools.specs.Pools.{take_fresh, take, take_slot, take_entry, take_wait}
 

@@ -1,6 +1,6 @@
 -- On a file that is read, what the code gives is what `pruned` says.
 use Prim.Native.Nat.{ℕ, zero, suc, ◌+◌, ◌-◌, ◌<◌, ◌≤◌}
-use Rattle.std.specs.Prelude.{◌≡◌, Bool, get_or, take, drop, replicate, eqb}
+use Rattle.std.specs.Prelude.{Ok, Err, ◌≡◌, Bool, get_or, take, drop, replicate, eqb}
 use Rattle.std.proofs.Math.Path.{refl, sym, ap}
 use Rattle.std.proofs.Common.{◌∙◌, length-append, length-drop, take_at, ltb-true}
 use Rattle.std.proofs.Math.Bool.{true, false}
@@ -10,7 +10,7 @@ use mathlib.Core.List.{List, [], ◌∷◌, ◌++◌}
 use native.Mathlib.Omega.{arith}
 use Rattle.std.proofs.Math.ListN.{length}
 use Rattle.std.proofs.Math.Dec.{ltb}
-use Rattle.net_file.specs.Lists.{Result, ok, refuse, need, bit, any, all, concat_map}
+use Rattle.net_file.specs.Lists.{ok, refuse, need, bit, any, all, concat_map}
 use Rattle.net_file.specs.Values.{FlatNet, File}
 use Rattle.net_file.specs.Read.{times, times_from, many, read_path, read_name, read_rule, read_flat_net, paths_fit, read_body}
 use Rattle.net_file.specs.Write.{be, counted, write_flat_net}
@@ -41,13 +41,11 @@ use Rattle.reach_names.specs.Reach.{reached}
 use Rattle.reach_laws.specs.Onward.{nets_are, nets_inside, reached_marks}
 use Rattle.convert_laws.specs.Frame.{with_nets, framed, frame_written}
 use Rattle.convert_frame.specs.Head.{head_bytes, head_length, head_framed}
-use Rattle.convert_frame.specs.Called.{answered}
-use Rattle.convert_frame.specs.declared.Converted.{Converted}
-use Rattle.convert_frame.specs.declared.Converted.TheVariants.{Refused}
-use Rattle.net_check.specs.Verdict.{verdict}
-use Rattle.net_check.specs.declared.Checked.{Checked}
-use Rattle.net_check.specs.declared.Checked.TheVariants.{Accepted}
-use Rattle.net_check.specs.declared.Checked.TheVariants.{Refused as Checked-as-Refused}
+use Rattle.convert_frame.specs.Called.{Converted, answered}
+use Rattle.refusals.specs.declared.Refusal.{Refusal}
+use Rattle.refusals.specs.Numbers.{number}
+use Rattle.refusals.specs.Told.{told}
+use Rattle.net_check.specs.Verdict.{Checked, verdict, read_numbered, was_read, was_refused}
 use Rattle.pruning.specs.Kept.{entries_below, kept_count, kept_net, kept_bytes, result_of, kept_file, accepted}
 
 -- ---- the bytes of a net
@@ -215,34 +213,24 @@ module _ (s : List ℕ) (bytes : Bytes s) (f : File FlatNet) (e : read flat s �
 
 -- ---- each way out of the call
 
-was_read : (o : Result (File FlatNet)) → Accepted ≡ verdict o → (x : File FlatNet) × (o ≡ ok x)
-unfolding verdict
-was_read (ok x) e = (x, refl)
-was_read (refuse n) e = let z : ◌≡◌ {A = ℕ} 0 1 = cc in absurd (omega arith)
-
-unread : (o : Result (File FlatNet)) (r : ℕ) → Checked-as-Refused r ≡ verdict o → o ≡ refuse r
-unfolding verdict
-unread (ok x) r e = let z : ◌≡◌ {A = ℕ} 0 1 = cc in absurd (omega arith)
-unread (refuse n) r e = let z : n ≡ r = cc in ap refuse z
-
 module _ (s es out : List ℕ) (room : ℕ) (c : Checked) (ec : c ≡ verdict (read flat s)) where
-  said : c ≡ Accepted → Bytes s → pruned es room s ≡ accepted s es room
+  said : c ≡ Ok tt → Bytes s → pruned es room s ≡ accepted s es room
   said h b = let x = was_read (read flat s) (sym h ∙ ec) in pruned_is s b x.0 x.1 es room
 
-  pub prune_is : (a : Converted) → c ≡ Accepted → Bytes s → a ≡ answered (accepted s es room) → a ≡ answered (pruned es room s)
+  pub prune_is : (a : Converted) → c ≡ Ok tt → Bytes s → told a ≡ answered (accepted s es room) → told a ≡ answered (pruned es room s)
   prune_is a h b e = e ∙ ap answered (sym (said h b))
 
-  pub prune_left : (w : List ℕ) → c ≡ Accepted → Bytes s → w ≡ written (accepted s es room) out → w ≡ written (pruned es room s) out
+  pub prune_left : (w : List ℕ) → c ≡ Ok tt → Bytes s → w ≡ written (accepted s es room) out → w ≡ written (pruned es room s) out
   prune_left w h b e = e ∙ ap (λ o. written o out) (sym (said h b))
 
-  refused : (r : ℕ) → c ≡ Checked-as-Refused r → pruned es room s ≡ refuse r
+  refused : (r : Refusal) → c ≡ Err r → pruned es room s ≡ refuse (number r)
   unfolding pruned
-  refused r h = let x = unread (read flat s) r (sym h ∙ ec) in rw x
+  refused r h = let x = was_refused (read flat s) r (read_numbered flat s) (sym h ∙ ec) in rw x
 
-  pub prune_refused_is : (r : ℕ) → c ≡ Checked-as-Refused r → Refused r ≡ answered (pruned es room s)
+  pub prune_refused_is : (r : Refusal) → c ≡ Err r → told (Err r) ≡ answered (pruned es room s)
   unfolding answered
   prune_refused_is r h = ap answered (sym (refused r h))
 
-  pub prune_refused_left : (r : ℕ) → c ≡ Checked-as-Refused r → out ≡ written (pruned es room s) out
+  pub prune_refused_left : (r : Refusal) → c ≡ Err r → out ≡ written (pruned es room s) out
   unfolding written
   prune_refused_left r h = ap (λ o. written o out) (sym (refused r h))

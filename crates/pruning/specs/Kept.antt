@@ -10,12 +10,12 @@ use Rattle.ends.specs.Ends.{within, on}
 use Rattle.put.specs.Written.{part}
 use Rattle.reach_names.specs.Reach.{reached}
 use Rattle.convert_frame.specs.Head.{head_bytes}
-use Rattle.convert_frame.specs.Called.{answered}
-use Rattle.convert_frame.specs.declared.Converted.{Converted}
+use Rattle.refusals.specs.Told.{told}
+use Rattle.convert_frame.specs.Called.{Converted, answered}
 
 -- the answer, and every byte of the output
 abbrev pub Gives : Result (List ℕ) → List ℕ → Converted → List ℕ → Type 0
-Gives a out r out' = (r ≡ answered a) × (out' ≡ written a out)
+Gives a out r out' = (told r ≡ answered a) × (out' ≡ written a out)
 
 -- every entry is below the name count
 unfoldable pub entries_below : List ℕ → ℕ → Bool

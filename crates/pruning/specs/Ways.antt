@@ -1,15 +1,16 @@
 -- Each way out, and one turn of each loop, in the code's terms.
-use Prim.Native.Nat.{ℕ, zero, suc, ◌+◌, ◌-◌, ◌<◌, ◌≤◌, min}
-use Rattle.std.specs.Prelude.{◌≡◌, Bool, ◌&&◌, List, ◌++◌, get_or, replicate, ltb}
+use Prim.Native.Nat.{ℕ, zero, suc, ◌+◌, ◌-◌, ◌<◌, ◌≤◌, min, suc-le-suc}
+use Rattle.std.specs.Prelude.{Ok, Err, ◌≡◌, Bool, ◌&&◌, List, ◌++◌, get_or, replicate, ltb, ◌↔◌, IsTrue, EachIndex, [], ◌∷◌}
 use Rattle.std.proofs.Math.Path.{refl, sym, ap}
-use Rattle.std.proofs.Common.{◌∙◌, subst, sub-one, not-suc-le-zero, drop_of_length-le, drop-cons}
+use Rattle.std.proofs.Common.{◌∙◌, subst, sub-one, not-suc-le-zero, le_of_suc-le-suc}
+use Rattle.std.proofs.lemmas.Bool.{false_from_ne_true}
 use Rattle.std.proofs.Math.Bool.{true, false}
 use native.Mathlib.Omega.{arith}
-use Rattle.std.proofs.Math.Numerals.{add-one}
 use Rattle.std.proofs.Math.ListN.{length, drop, length-append}
 use Rattle.std.proofs.Math.Seq.{sets-eq}
 use borrow.Author.Tests.{lt-ltb, le-ltb, le-leb, lt-leb}
-use Rattle.net_file.specs.Lists.{refuse, bit}
+use Rattle.std.proofs.Math.Decide.{dec_lt}
+use Rattle.net_file.specs.Lists.{ok, refuse, bit}
 use Rattle.net_file_laws.specs.Bytes.{length_be}
 use Rattle.definitions.specs.Calls.{written}
 use Rattle.conversions.specs.Calls.{fitted}
@@ -20,28 +21,27 @@ use Rattle.ends.specs.Ends.{within, on}
 use Rattle.put.specs.Written.{part}
 use Rattle.text_writers.specs.Wrote.{far, Wrote, then, nothing, wrote_as, Still, still_on, still_none}
 use Rattle.reach_names.specs.Reach.{reached}
+use Rattle.refusals.specs.declared.Refusal.TheVariants.{BadBody, OutputTooShort}
 use Rattle.convert_frame.specs.Head.{head_bytes}
-use Rattle.convert_frame.specs.Called.{answered}
-use Rattle.convert_frame.specs.declared.Converted.{Converted}
-use Rattle.convert_frame.specs.declared.Converted.TheVariants.{Written, Refused}
+use Rattle.refusals.specs.Told.{told}
+use Rattle.convert_frame.specs.Called.{Converted, answered}
 use Rattle.pruning.specs.Kept.{entries_below, kept_count, kept_net, kept_bytes, result_of, kept_file, accepted}
 
 -- ---- the entries
 
-module _ (es : List ℕ) (n j : ℕ) (t : Bool) (g : entries_below (drop j es) n ≡ t) where
-  turn : j < length es → (ltb (get_or es j 0) n && entries_below (drop (j + 1) es) n) ≡ t
-  unfolding entries_below
-  turn h = rw add-one (rw (drop-cons es j 0 h) at g)
+one_more : (x : ℕ) (es : List ℕ) (n : ℕ) → x < n → EachIndex es (λ k. get_or es k 0 < n) → EachIndex (x ∷ es) (λ k. get_or (x ∷ es) k 0 < n)
+one_more x es n h f zero l = h
+one_more x es n h f (suc i) l = f i (le_of_suc-le-suc l)
 
-  pub below_more : (e : ℕ) → j < length es → e ≡ get_or es j 0 → e < n → entries_below (drop (j + 1) es) n ≡ t
-  below_more e h ee l = let b : ltb (get_or es j 0) n ≡ true = lt-ltb _ n (rw (← ee) l) in rw b at (turn h)
-
-  pub below_not : (e : ℕ) → j < length es → e ≡ get_or es j 0 → n ≤ e → false ≡ t
-  below_not e h ee l = let b : ltb (get_or es j 0) n ≡ false = le-ltb _ n (rw (← ee) l) in rw b at (turn h)
-
-  pub below_done : length es ≤ j → true ≡ t
-  unfolding entries_below
-  below_done h = rw (drop_of_length-le es h) at g
+pub entries_are : (es : List ℕ) (n : ℕ) (t : Bool) → (IsTrue t ↔ EachIndex es (λ k. get_or es k 0 < n)) → t ≡ entries_below es n
+unfolding entries_below
+entries_are [] n true h = refl
+entries_are [] n false h = h.1 (λ i l. absurd (not-suc-le-zero l))
+entries_are (x ∷ es) n t h = elim (dec_lt x n) [
+  | yes k ↦
+      rw (lt-ltb x n k) (entries_are es n t (λ e i l. h.0 e (suc i) (suc-le-suc l), λ f. h.1 (one_more x es n k f)))
+  | no k ↦ let f : t ≡ false = false_from_ne_true t (λ e. k (h.0 e 0 (omega arith))) in rw (f, le-ltb x n (omega arith))
+]
 
 -- ---- what is kept
 
@@ -105,11 +105,11 @@ result_written s marks q n count length f p r out m w t ef u = then t (rw ef at 
 -- ---- 15 or the result
 
 module _ (bs out : List ℕ) where
-  too_long : length out < length bs → (Refused 15 ≡ answered (fitted (length out) bs)) × (out ≡ written (fitted (length out) bs) out)
+  too_long : length out < length bs → (told (Err OutputTooShort) ≡ answered (fitted (length out) bs)) × (out ≡ written (fitted (length out) bs) out)
   unfolding fitted answered written
   too_long h = let l = lt-leb (length bs) (length out) h in rw l (refl, refl)
 
-  fits : (w : List ℕ) (r : ℕ) → length bs ≤ length out → Wrote bs 0 out w r → (Written (length bs) ≡ answered (fitted (length out) bs)) × (w ≡ written (fitted (length out) bs) out)
+  fits : (w : List ℕ) (r : ℕ) → length bs ≤ length out → Wrote bs 0 out w r → (told (Ok (length bs)) ≡ answered (fitted (length out) bs)) × (w ≡ written (fitted (length out) bs) out)
   unfolding fitted answered written
   fits w r h u =
       let l = le-leb (length bs) (length out) h in
@@ -141,37 +141,37 @@ module _ (s : List ℕ) (marks : List Bool) (q n f c k : ℕ) (x y out : List �
   unfolding result_of
   is_of l = rw (ec, ef, en, eq)
 
-  told : k ≡ min far (length (kept_file s marks))
-  told = let i = m.is in let e : length (head_bytes s q 1 c 0 ++ kept_bytes s marks (on s q 2) n) ≡ length (kept_file s marks) = ap length (is_of 0) ∙ sym (result_long s marks) in omega arith
+  length_is : k ≡ min far (length (kept_file s marks))
+  length_is = let i = m.is in let e : length (head_bytes s q 1 c 0 ++ kept_bytes s marks (on s q 2) n) ≡ length (kept_file s marks) = ap length (is_of 0) ∙ sym (result_long s marks) in omega arith
 
-  pub full_is : length out < k → Refused 15 ≡ answered (fitted (length out) (kept_file s marks))
-  full_is h = (too_long (kept_file s marks) out (let t = told in omega arith)).0
+  pub full_is : length out < k → told (Err OutputTooShort) ≡ answered (fitted (length out) (kept_file s marks))
+  full_is h = (too_long (kept_file s marks) out (let t = length_is in omega arith)).0
 
   pub full_left : length out < k → out ≡ written (fitted (length out) (kept_file s marks)) out
-  full_left h = (too_long (kept_file s marks) out (let t = told in omega arith)).1
+  full_left h = (too_long (kept_file s marks) out (let t = length_is in omega arith)).1
 
   module _ (w : List ℕ) (r : ℕ) (h : k ≤ length out) (l : length out < far) (u : Wrote (head_bytes s q 1 c k ++ kept_bytes s marks (on s q 2) n) 0 out w r) where
     exact : k ≡ length (kept_file s marks)
-    exact = let t = told in omega arith
+    exact = let t = length_is in omega arith
 
     whole : Wrote (kept_file s marks) 0 out w r
     unfolding kept_file
     whole = wrote_as (is_of k ∙ ap (result_of s marks) (exact ∙ result_long s marks)) u
 
-    pub done_is : Written k ≡ answered (fitted (length out) (kept_file s marks))
-    done_is = ap Written exact ∙ (fits (kept_file s marks) out w r (let e = exact in omega arith) whole).0
+    pub done_is : told (Ok k) ≡ answered (fitted (length out) (kept_file s marks))
+    done_is = ap ok exact ∙ (fits (kept_file s marks) out w r (let e = exact in omega arith) whole).0
 
     pub done_left : w ≡ written (fitted (length out) (kept_file s marks)) out
     done_left = (fits (kept_file s marks) out w r (let e = exact in omega arith) whole).1
 
 module _ (s out : List ℕ) where
-  pub nothing_full_is : length out < length s → Refused 15 ≡ answered (fitted (length out) s)
+  pub nothing_full_is : length out < length s → told (Err OutputTooShort) ≡ answered (fitted (length out) s)
   nothing_full_is h = (too_long s out h).0
 
   pub nothing_full_left : length out < length s → out ≡ written (fitted (length out) s) out
   nothing_full_left h = (too_long s out h).1
 
-  pub nothing_is : (w : List ℕ) (r : ℕ) → length s ≤ length out → Wrote s 0 out w r → Written (length s) ≡ answered (fitted (length out) s)
+  pub nothing_is : (w : List ℕ) (r : ℕ) → length s ≤ length out → Wrote s 0 out w r → told (Ok (length s)) ≡ answered (fitted (length out) s)
   nothing_is w r h u = (fits s out w r h u).0
 
   pub nothing_left : (w : List ℕ) (r : ℕ) → length s ≤ length out → Wrote s 0 out w r → w ≡ written (fitted (length out) s) out
@@ -183,8 +183,8 @@ pub marks_clear : (s es : List ℕ) (z ms : List Bool) → z ≡ replicate 1024 
 marks_clear s es z ms e m = subst (λ (y : List Bool). ms ≡ reached s es y) e m
 
 module _ (s es out w : List ℕ) (z ms : List Bool) (a : Converted) (e : z ≡ replicate 1024 false) (m : ms ≡ reached s es z) where
-  pub reached_is : a ≡ answered (fitted (length out) (kept_file s ms)) → a ≡ answered (fitted (length out) (kept_file s (reached s es (replicate 1024 false))))
-  reached_is h = subst (λ (y : List Bool). a ≡ answered (fitted (length out) (kept_file s y))) (marks_clear s es z ms e m) h
+  pub reached_is : told a ≡ answered (fitted (length out) (kept_file s ms)) → told a ≡ answered (fitted (length out) (kept_file s (reached s es (replicate 1024 false))))
+  reached_is h = subst (λ (y : List Bool). told a ≡ answered (fitted (length out) (kept_file s y))) (marks_clear s es z ms e m) h
 
   pub reached_left : w ≡ written (fitted (length out) (kept_file s ms)) out → w ≡ written (fitted (length out) (kept_file s (reached s es (replicate 1024 false)))) out
   reached_left h = subst (λ (y : List Bool). w ≡ written (fitted (length out) (kept_file s y)) out) (marks_clear s es z ms e m) h
@@ -207,19 +207,19 @@ module _ (s es out : List ℕ) (n room : ℕ) (t : Bool) (en : n ≡ be16 s (nam
   unfolding accepted
   refused_said h = pick_false _ _ _ (tested false h) refl
 
-  pub accepted_nothing_is : (a : Converted) → t ≡ true → length es ≡ 0 → a ≡ answered (fitted room s) → a ≡ answered (accepted s es room)
+  pub accepted_nothing_is : (a : Converted) → t ≡ true → length es ≡ 0 → told a ≡ answered (fitted room s) → told a ≡ answered (accepted s es room)
   accepted_nothing_is a h z e = e ∙ ap answered (nothing_said h z)
 
   pub accepted_nothing_left : (w : List ℕ) → t ≡ true → length es ≡ 0 → w ≡ written (fitted room s) out → w ≡ written (accepted s es room) out
   accepted_nothing_left w h z e = e ∙ ap (λ b. written b out) (nothing_said h z)
 
-  pub accepted_reached_is : (a : Converted) → t ≡ true → (length es ≡ 0 → ⊥) → a ≡ answered (fitted room (kept_file s (reached s es (replicate 1024 false)))) → a ≡ answered (accepted s es room)
+  pub accepted_reached_is : (a : Converted) → t ≡ true → (length es ≡ 0 → ⊥) → told a ≡ answered (fitted room (kept_file s (reached s es (replicate 1024 false)))) → told a ≡ answered (accepted s es room)
   accepted_reached_is a h z e = e ∙ ap answered (reached_said h z)
 
   pub accepted_reached_left : (w : List ℕ) → t ≡ true → (length es ≡ 0 → ⊥) → w ≡ written (fitted room (kept_file s (reached s es (replicate 1024 false)))) out → w ≡ written (accepted s es room) out
   accepted_reached_left w h z e = e ∙ ap (λ b. written b out) (reached_said h z)
 
-  pub accepted_refused_is : t ≡ false → Refused 5 ≡ answered (accepted s es room)
+  pub accepted_refused_is : t ≡ false → told (Err BadBody) ≡ answered (accepted s es room)
   unfolding answered
   accepted_refused_is h = ap answered (refused_said h)
 

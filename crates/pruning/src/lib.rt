@@ -10,27 +10,19 @@ ghost use Rattle.convert_frame.specs.Head.{head_bytes};
 ghost use Rattle.ends.specs.Ends.{on};
 ghost use Rattle.pruning.specs.Kept.{entries_below, kept_count, kept_net, kept_bytes, kept_file, accepted, Gives};
 
-use convert_frame::Converted;
-use net_check::Checked;
+use refusals::Refusal;
 
 // Whether every entry is below the name count.
 fn below(entries: &[u32], n: u32) -> bool
     ensures { result ≡ entries_below entries.now n }
 {
-    let mut j: usize = 0;
-    while j < entries.len() {
-        if n <= words::get(entries, j) {
-            return false;
-        }
-        j += 1;
-    }
-    true
+    entries.iter().all(|e| *e < n)
 }
 
 fn marked(marks: &[bool], i: usize) -> bool
     ensures { result ≡ get_or marks.now i false }
 {
-    if i < marks.len() { marks[i] } else { false }
+    marks.get(i).copied().unwrap_or(false)
 }
 
 // ---- what is kept
@@ -39,7 +31,7 @@ fn marked(marks: &[bool], i: usize) -> bool
 fn count_net(marks: &[bool], i: usize) -> u16
     ensures { (result ≡ bit (get_or marks.now i false)) × (result ≤ 1) }
 {
-    if marked(marks, i) { 1 } else { 0 }
+    marked(marks, i) as u16
 }
 
 // How many of n nets from `from` on are kept.
@@ -48,11 +40,9 @@ fn count_kept(s: &[u8], marks: &[bool], from: usize, n: u16) -> u16
 {
     let mut at = from;
     let mut c: u16 = 0;
-    let mut k = n;
-    while 0 < k {
+    for _ in 0..n {
         c += count_net(marks, fields::be16(s, at) as usize);
         at = ends::flat_net_end(s, at);
-        k -= 1;
     }
     c
 }
@@ -73,12 +63,10 @@ fn write_kept(s: &[u8], marks: &[bool], from: usize, n: u16, out: &mut [u8], pla
 {
     let mut at = from;
     let mut p = place;
-    let mut k = n;
-    while 0 < k {
+    for _ in 0..n {
         let e = ends::flat_net_end(s, at);
         p = write_net(s, marks, at, e, out, p);
         at = e;
-        k -= 1;
     }
     p
 }
@@ -102,7 +90,7 @@ fn write_result(
 // ---- the calls
 
 // The nets whose names are marked. Written first into a slice of one byte, which tells the length.
-fn prune_marked(s: &[u8], marks: &[bool], out: &mut [u8]) -> Converted
+fn prune_marked(s: &[u8], marks: &[bool], out: &mut [u8]) -> Result<usize, Refusal>
     ensures { Gives (fitted (length out.old) (kept_file s.now marks.now)) out.old result out.new }
 {
     let q = readers::net_count_at(s);
@@ -111,26 +99,26 @@ fn prune_marked(s: &[u8], marks: &[bool], out: &mut [u8]) -> Converted
     let mut tail = [0u8; 1];
     let length = write_result(s, marks, q, n, c, 0, &mut tail);
     if out.len() < length {
-        return Converted::Refused(15);
+        return Err(Refusal::OutputTooShort);
     }
     write_result(s, marks, q, n, c, length, out);
-    Converted::Written(length)
+    Ok(length)
 }
 
 // The file as it is: without entries nothing is removed.
-fn prune_nothing(s: &[u8], out: &mut [u8]) -> Converted
+fn prune_nothing(s: &[u8], out: &mut [u8]) -> Result<usize, Refusal>
     ensures { Gives (fitted (length out.old) s.now) out.old result out.new }
 {
     let n = s.len();
     if out.len() < n {
-        return Converted::Refused(15);
+        return Err(Refusal::OutputTooShort);
     }
     text_writers::word(out, 0, s);
-    Converted::Written(n)
+    Ok(n)
 }
 
 // A mark for each of 1,024 names, all clear at first.
-fn prune_reached(s: &[u8], entries: &[u32], out: &mut [u8]) -> Converted
+fn prune_reached(s: &[u8], entries: &[u32], out: &mut [u8]) -> Result<usize, Refusal>
     ensures { Gives (fitted (length out.old) (kept_file s.now (reached s.now entries.now (replicate 1024 false)))) out.old result out.new }
 {
     let mut marks = [false; 1024];
@@ -139,7 +127,7 @@ fn prune_reached(s: &[u8], entries: &[u32], out: &mut [u8]) -> Converted
 }
 
 // An accepted file: 5 where an entry is not below the name count, then 15.
-fn prune_accepted(s: &[u8], entries: &[u32], out: &mut [u8]) -> Converted
+fn prune_accepted(s: &[u8], entries: &[u32], out: &mut [u8]) -> Result<usize, Refusal>
     ensures { Gives (accepted s.now entries.now (length out.old)) out.old result out.new }
 {
     let n = readers::name_count(s);
@@ -149,16 +137,13 @@ fn prune_accepted(s: &[u8], entries: &[u32], out: &mut [u8]) -> Converted
         }
         return prune_reached(s, entries, out);
     }
-    Converted::Refused(5)
+    Err(Refusal::BadBody)
 }
 
 // Keeps exactly what is reached from the entries. Refused by 2 to 8 as the file is, then by 5 and 15.
-pub fn prune(file: &[u8], entries: &[u32], out: &mut [u8]) -> Converted
+pub fn prune(file: &[u8], entries: &[u32], out: &mut [u8]) -> Result<usize, Refusal>
     ensures { Gives (pruned entries.now (length out.old) file.now) out.old result out.new }
 {
-    let checked = net_check::check_flat(file);
-    match checked {
-        Checked::Accepted => prune_accepted(file, entries, out),
-        Checked::Refused(r) => Converted::Refused(r as u32),
-    }
+    net_check::check_flat(file)?;
+    prune_accepted(file, entries, out)
 }

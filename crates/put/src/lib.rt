@@ -1,5 +1,6 @@
 // The fields of a net file, written into a lent slice. Document 01, "The net file": numbers are big-endian.
-// A writer finds out first whether there is room, so it writes all of its bytes or none.
+// A writer finds out first whether there is room, so it writes all of its bytes or none: it answers
+// the place after what it wrote, or None where there is no room.
 #![tactic(auto)]
 
 ghost use Rattle.std.specs.Prelude.{◌+◌, ◌-◌, ◌≤◌, ◌≡◌, length};
@@ -7,138 +8,103 @@ ghost use Rattle.net_file.specs.Lists.{bit};
 ghost use Rattle.net_file.specs.Write.{be, counted};
 ghost use Rattle.put.specs.Written.{Written, WrittenIf, Short, part, numbers};
 
-// The place after what was written, or that there is no room for it.
-#[derive(Clone, Copy)]
-pub enum Put {
-    At(usize),
-    Full,
-}
-
 // How many bytes there are from a place on.
 pub fn space(out: &[u8], at: usize) -> usize
     ensures { result ≡ length out.now - at }
 {
-    if at < out.len() { out.len() - at } else { 0 }
+    out.len().saturating_sub(at)
+}
+
+// All of the bytes of s.
+pub fn put_all(out: &mut [u8], at: usize, s: &[u8]) -> Option<usize>
+    ensures { Written s.now at out.old out.new result }
+{
+    if out.len() < at {
+        return None;
+    }
+    if out.len() - at < s.len() {
+        return None;
+    }
+    out[at..at + s.len()].copy_from_slice(s);
+    Some(at + s.len())
 }
 
 // A number in one byte; below it in two, in four and in eight.
-pub fn put8(out: &mut [u8], at: usize, v: u8) -> Put
+pub fn put8(out: &mut [u8], at: usize, v: u8) -> Option<usize>
     ensures { Written (be 1 v) at out.old out.new result }
 {
     if space(out, at) < 1 {
-        return Put::Full;
+        return None;
     }
     out[at] = v;
-    Put::At(at + 1)
+    Some(at + 1)
 }
 
-pub fn put16(out: &mut [u8], at: usize, v: u16) -> Put
+pub fn put16(out: &mut [u8], at: usize, v: u16) -> Option<usize>
     ensures { Written (be 2 v) at out.old out.new result }
 {
-    if space(out, at) < 2 {
-        return Put::Full;
-    }
-    out[at] = (v / 256 % 256) as u8;
-    out[at + 1] = (v % 256) as u8;
-    Put::At(at + 2)
+    put_all(out, at, &u16::to_be_bytes(v))
 }
 
-pub fn put32(out: &mut [u8], at: usize, v: u32) -> Put
+pub fn put32(out: &mut [u8], at: usize, v: u32) -> Option<usize>
     ensures { Written (be 4 v) at out.old out.new result }
 {
-    if space(out, at) < 4 {
-        return Put::Full;
-    }
-    out[at] = (v / 16777216 % 256) as u8;
-    out[at + 1] = (v / 65536 % 256) as u8;
-    out[at + 2] = (v / 256 % 256) as u8;
-    out[at + 3] = (v % 256) as u8;
-    Put::At(at + 4)
+    put_all(out, at, &u32::to_be_bytes(v))
 }
 
-pub fn put64(out: &mut [u8], at: usize, v: u64) -> Put
+pub fn put64(out: &mut [u8], at: usize, v: u64) -> Option<usize>
     ensures { Written (be 8 v) at out.old out.new result }
 {
-    if space(out, at) < 8 {
-        return Put::Full;
-    }
-    out[at] = (v / 72057594037927936 % 256) as u8;
-    out[at + 1] = (v / 281474976710656 % 256) as u8;
-    out[at + 2] = (v / 1099511627776 % 256) as u8;
-    out[at + 3] = (v / 4294967296 % 256) as u8;
-    out[at + 4] = (v / 16777216 % 256) as u8;
-    out[at + 5] = (v / 65536 % 256) as u8;
-    out[at + 6] = (v / 256 % 256) as u8;
-    out[at + 7] = (v % 256) as u8;
-    Put::At(at + 8)
+    put_all(out, at, &u64::to_be_bytes(v))
 }
 
 // One byte, 0 or 1.
-pub fn put_bit(out: &mut [u8], at: usize, b: bool) -> Put
+pub fn put_bit(out: &mut [u8], at: usize, b: bool) -> Option<usize>
     ensures { Written (be 1 (bit b)) at out.old out.new result }
 {
-    if b {
-        put8(out, at, 1)
-    } else {
-        put8(out, at, 0)
-    }
+    put8(out, at, b as u8)
 }
 
-// The n bytes of s from a place on, if it has so many.
-pub fn put_bytes(out: &mut [u8], at: usize, s: &[u8], from: usize, n: usize) -> Put
+// The n bytes of s from a place on. None too where it has not so many.
+pub fn put_bytes(out: &mut [u8], at: usize, s: &[u8], from: usize, n: usize) -> Option<usize>
     ensures { WrittenIf (from + n ≤ length s.now) (part s.now from n) at out.old out.new result }
 {
     if s.len() < from {
-        return Put::Full;
+        return None;
     }
     if s.len() - from < n {
-        return Put::Full;
+        return None;
     }
-    if out.len() < at {
-        return Put::Full;
-    }
-    if out.len() - at < n {
-        return Put::Full;
-    }
-    let mut i = 0;
-    while i < n {
-        out[at + i] = s[from + i];
-        i += 1;
-    }
-    Put::At(at + n)
+    put_all(out, at, &s[from..from + n])
 }
 
 // Each number in two bytes.
-pub fn put_numbers(out: &mut [u8], at: usize, ns: &[u16]) -> Put
+pub fn put_numbers(out: &mut [u8], at: usize, ns: &[u16]) -> Option<usize>
     ensures { Written (numbers ns.now) at out.old out.new result }
 {
     let n = ns.len();
     if out.len() / 2 < n {
-        return Put::Full;
+        return None;
     }
     if out.len() - 2 * n < at {
-        return Put::Full;
+        return None;
     }
-    let mut i = 0;
-    while i < n {
-        let v = ns[i];
-        out[at + 2 * i] = (v / 256 % 256) as u8;
-        out[at + 2 * i + 1] = (v % 256) as u8;
-        i += 1;
+    for i in 0..n {
+        put16(out, at + 2 * i, ns[i]);
     }
-    Put::At(at + 2 * n)
+    Some(at + 2 * n)
 }
 
-// The count in one byte, then each number. Full too where a byte cannot say the count.
-pub fn put_counted(out: &mut [u8], at: usize, ns: &[u16]) -> Put
+// The count in one byte, then each number. None too where a byte cannot say the count.
+pub fn put_counted(out: &mut [u8], at: usize, ns: &[u16]) -> Option<usize>
     ensures { WrittenIf (Short ns.now) (counted 1 (be 2) ns.now) at out.old out.new result }
 {
     let n = ns.len();
     if 255 < n {
-        return Put::Full;
+        return None;
     }
     if space(out, at) < 1 + 2 * n {
-        return Put::Full;
+        return None;
     }
     put8(out, at, n as u8);
     put_numbers(out, at + 1, ns)

@@ -20,9 +20,10 @@ use Rattle.stored.specs.Stored.{table_at, table_end, name_at, name_end}
 use Rattle.ends.specs.Ends.{name_past}
 use Rattle.readers_laws.specs.Tables.{table_inside, table_next}
 use Rattle.repeats.specs.declared.Item.TheVariants.{Name as Named}
-use Rattle.repeats.specs.declared.Order.{Order}
-use Rattle.repeats.specs.declared.Order.TheVariants.{Less, Same, More}
-use Rattle.repeats.specs.Repeats.{size_of, compare, is_same, search, known, insert}
+use Rattle.std.specs.Ordering.{is_eq}
+use Rattle.std.specs.declared.cmp.Ordering.{Ordering}
+use Rattle.std.specs.declared.cmp.Ordering.TheVariants.{Less, Equal, Greater}
+use Rattle.repeats.specs.Repeats.{size_of, compare, search, known, insert}
 use Rattle.repeats_laws.specs.Runs.{Alike, Compared, compared, alike_sym, alike_not_before}
 use Rattle.repeats_laws.specs.Arrays.{length_insert, insert_low, insert_at, insert_high}
 use Rattle.repeats_laws.specs.Find as searching
@@ -89,16 +90,16 @@ module _ (s : List ℕ) where
 
   -- where the same bytes were found
   known_alike : (l : List ℕ) (m p at n : ℕ) → known s l m p at n ≡ true → ((j : ℕ) → j < m → get_or l j 0 + n ≤ length s) → at + n ≤ length s → (p < m) × Alike s n (get_or l p 0) at
-  unfolding known is_same
-  known_alike l m p at n e fit fits = elim (lt_cases p m (is_same (compare s (get_or l p 0) at n)) false) [
+  unfolding known
+  known_alike l m p at n e fit fits = elim (lt_cases p m (is_eq (compare s (get_or l p 0) at n)) false) [
     | inl c ↦ (c.0, go (compare s (get_or l p 0) at n) (sym c.1 ∙ e) (compared s n (get_or l p 0) at (fit p c.0) fits))
     | inr c ↦ false_true (sym c.1 ∙ e)
   ]
     where
-      go : (o : Order) → is_same o ≡ true → Compared s n (get_or l p 0) at o → Alike s n (get_or l p 0) at
+      go : (o : Ordering) → is_eq o ≡ true → Compared s n (get_or l p 0) at o → Alike s n (get_or l p 0) at
       go Less e b = false_true e
-      go Same e b = b
-      go More e b = false_true e
+      go Equal e b = b
+      go Greater e b = false_true e
 
   module _ (small : (i : ℕ) → get_or s i 0 < 256) (from n : ℕ) (few : n ≤ 1024) (inside : place from n ≤ length s) (apart : distinct same_name (table from n) ≡ true) where
     -- the place of a name is no later than that of the next

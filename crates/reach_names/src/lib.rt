@@ -2,14 +2,14 @@
 // met and put in order; each in its turn leads on to its children and to what the nodes of its net lead to.
 #![tactic(auto)]
 
-ghost use Rattle.std.specs.Prelude.{◌+◌, ◌≡◌, replicate};
+ghost use Rattle.std.specs.Prelude.{◌≡◌, replicate};
 ghost use Rattle.stored.specs.Stored.{list_at};
 ghost use Rattle.name_table.specs.Table.{find};
 ghost use Rattle.reach_names.specs.Reach.{Met, mark, mark_all, from_node_words, from_nodes, onward, close, from_entries, with_names, reached};
 
 // A name, if it is not marked yet.
 fn mark(marks: &mut [bool], order: &mut [usize], count: usize, i: usize) -> usize
-    ensures { (result ≡ (mark (record { marks = marks.entry.now; order = order.old; count = count }) i).count) × (marks.exit.now ≡ (mark (record { marks = marks.entry.now; order = order.old; count = count }) i).marks) × (order.new ≡ (mark (record { marks = marks.entry.now; order = order.old; count = count }) i).order) }
+    ensures { (result ≡ (mark (record { marks = marks.old; order = order.old; count = count }) i).count) × (marks.new ≡ (mark (record { marks = marks.old; order = order.old; count = count }) i).marks) × (order.new ≡ (mark (record { marks = marks.old; order = order.old; count = count }) i).order) }
 {
     if marks.len() <= i {
         return count;
@@ -27,30 +27,24 @@ fn mark(marks: &mut [bool], order: &mut [usize], count: usize, i: usize) -> usiz
 
 // The entries.
 fn mark_entries(entries: &[u32], marks: &mut [bool], order: &mut [usize], count: usize) -> usize
-    ensures { (result ≡ (mark_all (record { marks = marks.entry.now; order = order.old; count = count }) entries.now).count) × (marks.exit.now ≡ (mark_all (record { marks = marks.entry.now; order = order.old; count = count }) entries.now).marks) × (order.new ≡ (mark_all (record { marks = marks.entry.now; order = order.old; count = count }) entries.now).order) }
+    ensures { (result ≡ (mark_all (record { marks = marks.old; order = order.old; count = count }) entries.now).count) × (marks.new ≡ (mark_all (record { marks = marks.old; order = order.old; count = count }) entries.now).marks) × (order.new ≡ (mark_all (record { marks = marks.old; order = order.old; count = count }) entries.now).order) }
 {
     let mut c = count;
-    let mut j: usize = 0;
-    while j < entries.len() {
-        let e = words::get(entries, j);
-        c = mark(marks, order, c, e as usize);
-        j += 1;
+    for e in entries {
+        c = mark(marks, order, c, *e as usize);
     }
     c
 }
 
 // The children of the name whose list of children stands at `at`.
 fn mark_list(s: &[u8], at: usize, marks: &mut [bool], order: &mut [usize], count: usize) -> usize
-    ensures { (result ≡ (mark_all (record { marks = marks.entry.now; order = order.old; count = count }) (list_at s.now at)).count) × (marks.exit.now ≡ (mark_all (record { marks = marks.entry.now; order = order.old; count = count }) (list_at s.now at)).marks) × (order.new ≡ (mark_all (record { marks = marks.entry.now; order = order.old; count = count }) (list_at s.now at)).order) }
+    ensures { (result ≡ (mark_all (record { marks = marks.old; order = order.old; count = count }) (list_at s.now at)).count) × (marks.new ≡ (mark_all (record { marks = marks.old; order = order.old; count = count }) (list_at s.now at)).marks) × (order.new ≡ (mark_all (record { marks = marks.old; order = order.old; count = count }) (list_at s.now at)).order) }
 {
     let mut c = count;
-    let mut j: usize = 0;
-    let mut k = fields::byte(s, at);
-    while 0 < k {
+    let k = fields::byte(s, at) as usize;
+    for j in 0..k {
         let i = readers::be16_on(s, at, 1 + 2 * j);
         c = mark(marks, order, c, i as usize);
-        j += 1;
-        k -= 1;
     }
     c
 }
@@ -66,7 +60,7 @@ fn mark_node(
     order: &mut [usize],
     count: usize,
 ) -> usize
-    ensures { (result ≡ (mark_all (record { marks = marks.entry.now; order = order.old; count = count }) (from_node_words (find s.now sorted.now numbers.now m) s.now at)).count) × (marks.exit.now ≡ (mark_all (record { marks = marks.entry.now; order = order.old; count = count }) (from_node_words (find s.now sorted.now numbers.now m) s.now at)).marks) × (order.new ≡ (mark_all (record { marks = marks.entry.now; order = order.old; count = count }) (from_node_words (find s.now sorted.now numbers.now m) s.now at)).order) }
+    ensures { (result ≡ (mark_all (record { marks = marks.old; order = order.old; count = count }) (from_node_words (find s.now sorted.now numbers.now m) s.now at)).count) × (marks.new ≡ (mark_all (record { marks = marks.old; order = order.old; count = count }) (from_node_words (find s.now sorted.now numbers.now m) s.now at)).marks) × (order.new ≡ (mark_all (record { marks = marks.old; order = order.old; count = count }) (from_node_words (find s.now sorted.now numbers.now m) s.now at)).order) }
 {
     let i = name_table::find(s, sorted, numbers, m, at);
     if i < 1024 {
@@ -87,15 +81,13 @@ fn mark_nodes(
     order: &mut [usize],
     count: usize,
 ) -> usize
-    ensures { (result ≡ (mark_all (record { marks = marks.entry.now; order = order.old; count = count }) (from_nodes (find s.now sorted.now numbers.now m) s.now from n)).count) × (marks.exit.now ≡ (mark_all (record { marks = marks.entry.now; order = order.old; count = count }) (from_nodes (find s.now sorted.now numbers.now m) s.now from n)).marks) × (order.new ≡ (mark_all (record { marks = marks.entry.now; order = order.old; count = count }) (from_nodes (find s.now sorted.now numbers.now m) s.now from n)).order) }
+    ensures { (result ≡ (mark_all (record { marks = marks.old; order = order.old; count = count }) (from_nodes (find s.now sorted.now numbers.now m) s.now from n)).count) × (marks.new ≡ (mark_all (record { marks = marks.old; order = order.old; count = count }) (from_nodes (find s.now sorted.now numbers.now m) s.now from n)).marks) × (order.new ≡ (mark_all (record { marks = marks.old; order = order.old; count = count }) (from_nodes (find s.now sorted.now numbers.now m) s.now from n)).order) }
 {
     let mut c = count;
     let mut at = from;
-    let mut k = n;
-    while 0 < k {
+    for _ in 0..n {
         c = mark_node(s, sorted, numbers, m, at, marks, order, c);
         at = ends::node_end(s, at);
-        k -= 1;
     }
     c
 }
@@ -113,7 +105,7 @@ fn visit(
     order: &mut [usize],
     count: usize,
 ) -> usize
-    ensures { (result ≡ (mark_all (record { marks = marks.entry.now; order = order.old; count = count }) (onward (find s.now sorted.now numbers.now m) s.now names.now nets.now i)).count) × (marks.exit.now ≡ (mark_all (record { marks = marks.entry.now; order = order.old; count = count }) (onward (find s.now sorted.now numbers.now m) s.now names.now nets.now i)).marks) × (order.new ≡ (mark_all (record { marks = marks.entry.now; order = order.old; count = count }) (onward (find s.now sorted.now numbers.now m) s.now names.now nets.now i)).order) }
+    ensures { (result ≡ (mark_all (record { marks = marks.old; order = order.old; count = count }) (onward (find s.now sorted.now numbers.now m) s.now names.now nets.now i)).count) × (marks.new ≡ (mark_all (record { marks = marks.old; order = order.old; count = count }) (onward (find s.now sorted.now numbers.now m) s.now names.now nets.now i)).marks) × (order.new ≡ (mark_all (record { marks = marks.old; order = order.old; count = count }) (onward (find s.now sorted.now numbers.now m) s.now names.now nets.now i)).order) }
 {
     let x = name_table::get(names, i);
     let c = mark_list(s, ends::on(s, x, 10), marks, order, count);
@@ -147,19 +139,15 @@ fn close(
     order: &mut [usize],
     count: usize,
 )
-    ensures { (marks.exit.now ≡ (close (onward (find s.now sorted.now numbers.now m) s.now names.now nets.now) (record { marks = marks.entry.now; order = order.old; count = count }) 0 1024).marks) × (order.new ≡ (close (onward (find s.now sorted.now numbers.now m) s.now names.now nets.now) (record { marks = marks.entry.now; order = order.old; count = count }) 0 1024).order) }
+    ensures { (marks.new ≡ (close (onward (find s.now sorted.now numbers.now m) s.now names.now nets.now) (record { marks = marks.old; order = order.old; count = count }) 0 1024).marks) × (order.new ≡ (close (onward (find s.now sorted.now numbers.now m) s.now names.now nets.now) (record { marks = marks.old; order = order.old; count = count }) 0 1024).order) }
 {
     let mut c = count;
-    let mut h: usize = 0;
-    let mut k: u32 = 1024;
-    while 0 < k {
+    for h in 0..1024 {
         if c <= h {
             return;
         }
         let i = name_table::get(order, h);
         c = visit(s, names, nets, sorted, numbers, m, i, marks, order, c);
-        h += 1;
-        k -= 1;
     }
 }
 

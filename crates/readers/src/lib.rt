@@ -89,10 +89,8 @@ pub fn table_end(s: &[u8], part: Part, from: usize, n: u32) -> usize
     ensures { result ≡ within s.now (table_end (part_end s.now part) from n) }
 {
     let mut at = from;
-    let mut k = n;
-    while 0 < k {
+    for _ in 0..n {
         at = part_end(s, part, at);
-        k -= 1;
     }
     ends::on(s, at, 0)
 }

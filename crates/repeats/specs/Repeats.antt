@@ -1,12 +1,13 @@
 -- Whether n items of a table are pairwise different, as the code finds out: the places of those already seen, sorted by what
 -- stands there. What it means is in `repeats_laws`.
 use Rattle.std.specs.Prelude.{ℕ, zero, suc, ◌+◌, ◌*◌, ◌-◌, ◌/◌, Bool, true, false, List, length, get_or, set, replicate}
+use Rattle.std.specs.declared.cmp.Ordering.{Ordering}
+use Rattle.std.specs.declared.cmp.Ordering.TheVariants.{Less, Equal, Greater}
+use Rattle.std.specs.Ordering.{is_eq}
 use Rattle.words.specs.Choose.{pick, if_lt}
 use Rattle.fields.specs.Fields.{byte}
 use Rattle.repeats.specs.declared.Item.{Item}
 use Rattle.repeats.specs.declared.Item.TheVariants.{Path, Name}
-use Rattle.repeats.specs.declared.Order.{Order}
-use Rattle.repeats.specs.declared.Order.TheVariants.{Less, Same, More}
 use Rattle.repeats.specs.declared.Span.{Span}
 
 -- a path is a count of one byte and as many bytes; a name is 10 bytes, a count, and as many numbers of two bytes
@@ -15,26 +16,21 @@ size_of s Path at = 1 + byte s at
 size_of s Name at = 11 + 2 * byte s (at + 10)
 
 -- the first difference among n bytes
-unfoldable pub compare_from : List ℕ → ℕ → ℕ → ℕ → Order
-compare_from s a b zero = Same
+unfoldable pub compare_from : List ℕ → ℕ → ℕ → ℕ → Ordering
+compare_from s a b zero = Equal
 compare_from s a b (suc n) =
     let r = compare_from s (a + 1) (b + 1) n in
-    if_lt (byte s a) (byte s b) Less (if_lt (byte s b) (byte s a) More r)
+    if_lt (byte s a) (byte s b) Less (if_lt (byte s b) (byte s a) Greater r)
 
-unfoldable pub compare : List ℕ → ℕ → ℕ → ℕ → Order
+unfoldable pub compare : List ℕ → ℕ → ℕ → ℕ → Ordering
 compare s a b n =
     let r = compare_from s a b n in
-    if_lt (length s) (a + n) Same (if_lt (length s) (b + n) Same r)
+    if_lt (length s) (a + n) Equal (if_lt (length s) (b + n) Equal r)
 
-unfoldable pub on_less : {A : Type 0} → Order → A → A → A
+unfoldable pub on_less : {A : Type 0} → Ordering → A → A → A
 on_less Less a b = a
-on_less Same a b = b
-on_less More a b = b
-
-unfoldable pub is_same : Order → Bool
-is_same Less = false
-is_same Same = true
-is_same More = false
+on_less Equal a b = b
+on_less Greater a b = b
 
 module _ (s l : List ℕ) where
   unfoldable pub narrow : ℕ → ℕ → Span → Span
@@ -51,7 +47,7 @@ module _ (s l : List ℕ) where
   search m at n = (narrowed at n (record { lo = 0; hi = m }) 11).lo
 
   unfoldable pub known : ℕ → ℕ → ℕ → ℕ → Bool
-  known m p at n = if_lt p m (is_same (compare s (get_or l p 0) at n)) false
+  known m p at n = if_lt p m (is_eq (compare s (get_or l p 0) at n)) false
 
 -- the k entries from p on, up by one
 unfoldable pub shift : List ℕ → ℕ → ℕ → List ℕ

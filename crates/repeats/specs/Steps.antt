@@ -1,14 +1,22 @@
 -- One turn of each loop, in the code's terms, and its ends.
-use Rattle.std.specs.Prelude.{ℕ, zero, suc, ◌+◌, ◌*◌, ◌-◌, ◌/◌, ◌<◌, ◌≤◌, ◌≡◌, refl, Bool, true, false, List, length, get_or, set}
-use Rattle.std.proofs.Common.{sym, ap, ◌∙◌, arith, sub-one, not-suc-le-zero}
-use Rattle.words.specs.Choose.{pick, if_lt, lt_yes, lt_no, pick_true, pick_false}
+use Rattle.std.specs.Prelude.{ℕ, zero, suc, ◌+◌, ◌*◌, ◌-◌, ◌/◌, ◌<◌, ◌≤◌, ◌≡◌, ◌≢◌, refl, Bool, true, false, List, length, get_or, set, take, drop}
+use Rattle.std.specs.List.{between, copy_within}
+use Rattle.std.specs.Cmp.{nat_cmp_is}
+use Rattle.std.specs.Cmp.Lexicographic.{slice_cmp}
+use Rattle.std.specs.Ordering.{ordering_then, nat_cmp, is_eq, is_lt}
+use Rattle.std.proofs.Math.Bool.{true≢false}
+use Rattle.std.proofs.Common.{sym, ap, ◌∙◌, arith, sub-one, add-one, not-suc-le-zero, drop-cons, length-drop, get_or-set_other}
+use Rattle.std.proofs.lemmas.List.{set_comm, get_or-drop}
+use Rattle.std.proofs.lemmas.List.Edits.{paste_none, paste_more}
+use lib.Seq.{paste}
+use Rattle.std.specs.declared.cmp.Ordering.{Ordering}
+use Rattle.std.specs.declared.cmp.Ordering.TheVariants.{Less, Equal, Greater}
+use Rattle.words.specs.Choose.{pick, if_lt, lt_yes, lt_no, lt_split, pick_true, pick_false}
 use Rattle.fields.specs.Fields.{byte, byte_past}
 use Rattle.repeats.specs.declared.Item.{Item}
 use Rattle.repeats.specs.declared.Item.TheVariants.{Path, Name}
-use Rattle.repeats.specs.declared.Order.{Order}
-use Rattle.repeats.specs.declared.Order.TheVariants.{Less, Same, More}
 use Rattle.repeats.specs.declared.Span.{Span}
-use Rattle.repeats.specs.Repeats.{size_of, compare_from, compare, on_less, is_same, narrow, narrowed, search, known, shift, insert, differ_in}
+use Rattle.repeats.specs.Repeats.{size_of, compare_from, compare, on_less, narrow, narrowed, search, known, shift, insert, differ_in}
 
 -- ---- an item's size
 
@@ -29,42 +37,56 @@ size_name s item at z e h = rw h e
 
 -- ---- the comparison
 
--- one byte of either, then the rest
-compare_turn : (s : List ℕ) (x y k : ℕ) → 0 < k
-    → compare_from s x y k ≡ if_lt (byte s x) (byte s y) Less (if_lt (byte s y) (byte s x) More (compare_from s (x + 1) (y + 1) (k - 1)))
+-- the first byte that differs decides
+by_first : (x y : ℕ) (o : Ordering) → ordering_then (nat_cmp x y) o ≡ if_lt x y Less (if_lt y x Greater o)
+by_first x y o = lt_split x y _ _ (λ (r : Ordering). ordering_then (nat_cmp x y) o ≡ r)
+    (λ h. rw (← nat_cmp_is x y Less h))
+    (λ h. lt_split y x _ _ (λ (r : Ordering). ordering_then (nat_cmp x y) o ≡ r)
+    (λ i. rw (← nat_cmp_is x y Greater i))
+    (λ i. let e : x ≡ y = omega arith in rw (← nat_cmp_is x y Equal e)))
+
+compared : (s : List ℕ) (a b n : ℕ) → a + n ≤ length s → b + n ≤ length s → slice_cmp nat_cmp (take n (drop a s)) (take n (drop b s)) ≡ compare_from s a b n
 unfolding compare_from
-compare_turn s x y zero h = absurd (not-suc-le-zero h)
-compare_turn s x y (suc k) h = rw sub-one
+compared s a b zero h i = refl
+compared s a b (suc n) h i =
+    let f : a < length s = omega arith in
+    let g : b < length s = omega arith in
+    let rest = compared s (a + 1) (b + 1) n (omega arith) (omega arith) in
+    rw (drop-cons s a 0, drop-cons s b 0, ← add-one a, ← add-one b, rest) (by_first (byte s a) (byte s b) (compare_from s (a + 1) (b + 1) n))
 
-module _ (s : List ℕ) (x y k : ℕ) (o : Order) (e : compare_from s x y k ≡ o) (h : 0 < k) where
-  pub compare_less : byte s x < byte s y → Less ≡ o
-  compare_less i = lt_yes _ _ _ _ i refl ∙ sym (compare_turn s x y k h) ∙ e
+pub compare_past : (s : List ℕ) (a b n : ℕ) → (a + n ≤ length s → length s < b + n) → Equal ≡ compare s a b n
+unfolding compare
+compare_past s a b n h = lt_split (length s) (a + n) _ _ (λ (o : Ordering). Equal ≡ o) (λ i. refl) (λ i. lt_yes _ _ _ _ (h i) refl)
 
-  pub compare_over : byte s y ≤ byte s x → byte s y < byte s x → More ≡ o
-  compare_over i j = lt_no _ _ _ _ i (lt_yes _ _ _ _ j refl) ∙ sym (compare_turn s x y k h) ∙ e
-
-  pub compare_more : byte s y ≤ byte s x → byte s x ≤ byte s y → compare_from s (x + 1) (y + 1) (k - 1) ≡ o
-  compare_more i j = lt_no _ _ _ _ i (lt_no _ _ _ _ j refl) ∙ sym (compare_turn s x y k h) ∙ e
-
-pub compare_done : (s : List ℕ) (x y k : ℕ) (o : Order) → compare_from s x y k ≡ o → k ≤ 0 → Same ≡ o
-unfolding compare_from
-compare_done s x y zero o e h = e
-compare_done s x y (suc k) o e h = absurd (not-suc-le-zero h)
+pub compare_there : (s : List ℕ) (a b n : ℕ) (o : Ordering) → a + n ≤ length s → b + n ≤ length s → o ≡ slice_cmp nat_cmp (between a (a + n) s) (between b (b + n) s) → o ≡ compare s a b n
+unfolding compare
+compare_there s a b n o h i e =
+    let x : a + n - a ≡ n = omega arith in
+    let y : b + n - b ≡ n = omega arith in
+    e ∙ rw (x, y) (compared s a b n h i) ∙ lt_no _ _ _ _ h (lt_no _ _ _ _ i refl)
 
 -- ---- the search
 
-module _ (s l : List ℕ) (at n a : ℕ) (w : Span) (o : Order) (h : w.lo < w.hi) (ea : a ≡ get_or l (w.lo + (w.hi - w.lo) / 2) 0) (e : o ≡ compare s a at n) where
-  pub narrow_less : o ≡ Less → ◌≡◌ {A = Span} (record { lo = w.lo + (w.hi - w.lo) / 2 + 1; hi = w.hi }) (narrow s l at n w)
-  unfolding narrow on_less
-  narrow_less i = lt_yes _ _ _ _ h (rw (← ea, ← e, i))
+less_of : {A : Type 0} (o : Ordering) (x y : A) → is_lt o ≡ true → x ≡ on_less o x y
+unfolding on_less
+less_of Less x y h = refl
+less_of Equal x y h = absurd (true≢false (sym h))
+less_of Greater x y h = absurd (true≢false (sym h))
 
-  pub narrow_same : o ≡ Same → ◌≡◌ {A = Span} (record { lo = w.lo; hi = w.lo + (w.hi - w.lo) / 2 }) (narrow s l at n w)
-  unfolding narrow on_less
-  narrow_same i = lt_yes _ _ _ _ h (rw (← ea, ← e, i))
+rest_of : {A : Type 0} (o : Ordering) (x y : A) → is_lt o ≡ false → y ≡ on_less o x y
+unfolding on_less
+rest_of Less x y h = absurd (true≢false h)
+rest_of Equal x y h = refl
+rest_of Greater x y h = refl
 
-  pub narrow_more : o ≡ More → ◌≡◌ {A = Span} (record { lo = w.lo; hi = w.lo + (w.hi - w.lo) / 2 }) (narrow s l at n w)
-  unfolding narrow on_less
-  narrow_more i = lt_yes _ _ _ _ h (rw (← ea, ← e, i))
+module _ (s l : List ℕ) (at n a : ℕ) (w : Span) (o : Ordering) (h : w.lo < w.hi) (ea : a ≡ get_or l (w.lo + (w.hi - w.lo) / 2) 0) (e : o ≡ compare s a at n) where
+  pub narrow_less : (t : Bool) → t ≡ is_lt o → t ≡ true → ◌≡◌ {A = Span} (record { lo = w.lo + (w.hi - w.lo) / 2 + 1; hi = w.hi }) (narrow s l at n w)
+  unfolding narrow
+  narrow_less t et i = lt_yes _ _ _ _ h (rw (← ea, ← e) (less_of o _ _ (sym et ∙ i)))
+
+  pub narrow_rest : (t : Bool) → t ≡ is_lt o → t ≡ false → ◌≡◌ {A = Span} (record { lo = w.lo; hi = w.lo + (w.hi - w.lo) / 2 }) (narrow s l at n w)
+  unfolding narrow
+  narrow_rest t et i = lt_yes _ _ _ _ h (rw (← ea, ← e) (rest_of o _ _ (sym et ∙ i)))
 
 pub search_more : (s l : List ℕ) (at n k : ℕ) (w v x : Span) → narrowed s l at n w k ≡ x → 0 < k → v ≡ narrow s l at n w → narrowed s l at n v (k - 1) ≡ x
 unfolding narrowed
@@ -76,30 +98,34 @@ unfolding narrowed
 search_done s l at n zero w x e h = ap (λ v. v.lo) e
 search_done s l at n (suc k) w x e h = absurd (not-suc-le-zero h)
 
-module _ (s l : List ℕ) (m p at n a : ℕ) (o : Order) (h : p < m) (ea : a ≡ get_or l p 0) (e : o ≡ compare s a at n) where
-  pub known_less : o ≡ Less → false ≡ known s l m p at n
-  unfolding known is_same
-  known_less i = lt_yes _ _ _ _ h (rw (← ea, ← e, i))
-
-  pub known_same : o ≡ Same → true ≡ known s l m p at n
-  unfolding known is_same
-  known_same i = lt_yes _ _ _ _ h (rw (← ea, ← e, i))
-
-  pub known_more : o ≡ More → false ≡ known s l m p at n
-  unfolding known is_same
-  known_more i = lt_yes _ _ _ _ h (rw (← ea, ← e, i))
+pub known_is : (s l : List ℕ) (m p at n a : ℕ) (o : Ordering) → p < m → a ≡ get_or l p 0 → o ≡ compare s a at n → is_eq o ≡ known s l m p at n
+unfolding known
+known_is s l m p at n a o h ea e = lt_yes _ _ _ _ h (rw (← ea, ← e))
 
 -- ---- the shift
 
-pub shift_more : (l w : List ℕ) (p k : ℕ) (x : List ℕ) → shift l p k ≡ x → 0 < k → w ≡ set l (p + k) (get_or l (p + k - 1) 0) → shift w p (k - 1) ≡ x
+-- what is written above all that move stays
+shift_set : (l : List ℕ) (p k j v : ℕ) → p + k < j → shift (set l j v) p k ≡ set (shift l p k) j v
 unfolding shift
-shift_more l w p zero x e h ew = absurd (not-suc-le-zero h)
-shift_more l w p (suc k) x e h ew = let d : p + suc k - 1 ≡ p + k = omega arith in rw (sub-one, ew, d) e
+shift_set l p zero j v h = refl
+shift_set l p (suc k) j v h =
+    let f : p + k ≢ j = omega arith in
+    let g : j ≢ p + suc k = omega arith in
+    rw (get_or-set_other l j (p + k) v 0 f, set_comm l j (p + suc k) v (get_or l (p + k) 0) g) (shift_set (set l (p + suc k) (get_or l (p + k) 0)) p k j v (omega arith))
 
-pub shift_done : (l w : List ℕ) (m p at k : ℕ) → shift w p k ≡ shift l p (m - p) → k ≤ 0 → p + k ≤ m → m < length l → set w p at ≡ insert l m p at
-unfolding shift insert
-shift_done l w m p at zero e h i j = lt_yes _ _ _ _ j (lt_no _ _ _ _ (omega arith) (ap (λ v. set v p at) e))
-shift_done l w m p at (suc k) e h i j = absurd (not-suc-le-zero h)
+shifted : (l : List ℕ) (p k : ℕ) → p + k < length l → shift l p k ≡ paste l (p + 1) (drop p l) k
+unfolding shift
+shifted l p zero h = paste_none l (p + 1) (drop p l)
+shifted l p (suc k) h =
+    let e : p + suc k ≡ p + 1 + k = omega arith in
+    shift_set l p k (p + suc k) (get_or l (p + k) 0) (omega arith)
+    ∙ ap (λ v. set v (p + suc k) (get_or l (p + k) 0)) (shifted l p k (omega arith))
+    ∙ ap (λ j. set (paste l (p + 1) (drop p l) k) j (get_or l (p + k) 0)) e
+    ∙ rw (get_or-drop, add-one k) at (paste_more l (p + 1) (drop p l) k 0 (omega arith) (rw length-drop (omega arith)))
+
+pub insert_there : (l w : List ℕ) (m p at : ℕ) → p ≤ m → m < length l → w ≡ copy_within l p m (p + 1) → set w p at ≡ insert l m p at
+unfolding insert
+insert_there l w m p at h i e = lt_yes _ _ _ _ i (lt_no _ _ _ _ h (ap (λ v. set v p at) (e ∙ sym (shifted l p (m - p) (omega arith)))))
 
 -- ---- the table
 

@@ -7,6 +7,8 @@ ghost use Rattle.std.specs.Prelude.{◌≡◌, get_or, ◌+◌, ◌*◌};
 ghost use Rattle.fields.specs.Fields.{byte};
 ghost use Rattle.repeats.specs.Repeats.{size_of, compare, narrow, search, known, insert, differ_in, differ};
 
+use std::cmp::Ordering;
+
 // What the table is of. Either tells its own size, so of two that differ none is the other's beginning.
 #[derive(Clone, Copy)]
 pub enum Item {
@@ -14,14 +16,8 @@ pub enum Item {
     Name,
 }
 
-#[derive(Clone, Copy)]
-pub enum Order {
-    Less,
-    Same,
-    More,
-}
-
 // The part of the sorted places that a search has left.
+// std's binary search stays out: it says what it finds in a sorted slice only, `search` what it answers for any content.
 #[derive(Clone, Copy)]
 pub struct Span {
     pub lo: usize,
@@ -52,36 +48,14 @@ fn name_size(s: &[u8], at: usize) -> usize
 }
 
 // The first difference of n bytes at a and at b. Bytes that are not there are no item's: the answer is then the one that refuses.
-pub fn compare(s: &[u8], a: usize, b: usize, n: usize) -> Order
+pub fn compare(s: &[u8], a: usize, b: usize, n: usize) -> Ordering
     ensures { result ≡ compare s.now a b n }
 {
     let m = s.len();
-    if m < n {
-        return Order::Same;
+    if m < n || m - n < a || m - n < b {
+        return Ordering::Equal;
     }
-    if m - n < a {
-        return Order::Same;
-    }
-    if m - n < b {
-        return Order::Same;
-    }
-    let mut x = a;
-    let mut y = b;
-    let mut left = n;
-    while 0 < left {
-        let p = s[x];
-        let q = s[y];
-        if p < q {
-            return Order::Less;
-        }
-        if q < p {
-            return Order::More;
-        }
-        x += 1;
-        y += 1;
-        left -= 1;
-    }
-    Order::Same
+    s[a..a + n].cmp(&s[b..b + n])
 }
 
 fn entry(sorted: &[usize], i: usize) -> usize
@@ -100,11 +74,10 @@ fn narrow(s: &[u8], sorted: &[usize], at: usize, n: usize, w: Span) -> Span
         return Span { lo, hi };
     }
     let mid = lo + (hi - lo) / 2;
-    let o = compare(s, entry(sorted, mid), at, n);
-    match o {
-        Order::Less => Span { lo: mid + 1, hi },
-        Order::Same => Span { lo, hi: mid },
-        Order::More => Span { lo, hi: mid },
+    if compare(s, entry(sorted, mid), at, n).is_lt() {
+        Span { lo: mid + 1, hi }
+    } else {
+        Span { lo, hi: mid }
     }
 }
 
@@ -113,10 +86,8 @@ pub fn search(s: &[u8], sorted: &[usize], m: usize, at: usize, n: usize) -> usiz
     ensures { result ≡ search s.now sorted.now m at n }
 {
     let mut w = Span { lo: 0, hi: m };
-    let mut k: u32 = 11;
-    while 0 < k {
+    for _ in 0..11u32 {
         w = narrow(s, sorted, at, n, w);
-        k -= 1;
     }
     w.lo
 }
@@ -128,12 +99,7 @@ pub fn known(s: &[u8], sorted: &[usize], m: usize, p: usize, at: usize, n: usize
     if m <= p {
         return false;
     }
-    let o = compare(s, entry(sorted, p), at, n);
-    match o {
-        Order::Less => false,
-        Order::Same => true,
-        Order::More => false,
-    }
+    compare(s, entry(sorted, p), at, n).is_eq()
 }
 
 // A place put in at p: those from p on move up by one.
@@ -146,11 +112,7 @@ pub fn insert(sorted: &mut [usize], m: usize, p: usize, at: usize)
     if m < p {
         return;
     }
-    let mut k = m - p;
-    while 0 < k {
-        sorted[p + k] = sorted[p + k - 1];
-        k -= 1;
-    }
+    sorted.copy_within(p..m, p + 1);
     sorted[p] = at;
 }
 
@@ -160,8 +122,7 @@ fn differ_in(s: &[u8], sorted: &mut [usize], from: usize, n: u32, item: Item) ->
 {
     let mut at = from;
     let mut m: usize = 0;
-    let mut k = n;
-    while 0 < k {
+    for _ in 0..n {
         let z = item_size(s, at, item);
         if s.len() < z {
             return false;
@@ -176,7 +137,6 @@ fn differ_in(s: &[u8], sorted: &mut [usize], from: usize, n: u32, item: Item) ->
         insert(sorted, m, p, at);
         at += z;
         m += 1;
-        k -= 1;
     }
     true
 }

@@ -1,25 +1,21 @@
 -- `differ` tells whether the items of a table are pairwise different.
-use Prim.Native.Nat.{ℕ, zero, suc, ◌+◌, ◌<◌, ◌≤◌}
-use Rattle.std.specs.Prelude.{◌≡◌, Bool, true, false, ◌||◌, ◌⊎◌, List, get_or, replicate}
+use Prim.Native.Nat.{ℕ, zero, suc, ◌+◌, ◌≤◌}
+use Rattle.std.specs.Prelude.{◌≡◌, Bool, true, false, ◌||◌, List, get_or, replicate}
 use Rattle.std.proofs.Math.Path.{refl, sym}
 use Rattle.std.proofs.Common.{◌∙◌, arith}
-use Rattle.std.proofs.Math.Bool.{or-true}
 use Rattle.std.proofs.Math.Logic.{inl, inr}
 use Rattle.std.proofs.Math.Decide.{dec_lt}
 use Rattle.std.proofs.Math.Numerals.{add-one}
 use Rattle.std.proofs.Math.ListN.{length, length-replicate}
 use Rattle.words.specs.Choose.{lt_no, lt_split, pick_true, pick_false}
 use Rattle.net_file.specs.Lists.{distinct, eqs}
-use Rattle.list_laws.specs.Tests.{either}
-use Rattle.list_laws.specs.Lists.{eqs_true, eqs_eq}
 use Rattle.stored.specs.Stored.{table_at, table_end}
 use Rattle.repeats.specs.declared.Item.{Item}
 use Rattle.repeats.specs.Repeats.{size_of, search, insert, differ_in, differ}
 use Rattle.repeats_laws.specs.Runs.{Alike, alike_sym, alike_not_before}
-use Rattle.repeats_laws.specs.Arrays.{length_insert, insert_low, insert_at, insert_high}
-use Rattle.repeats_laws.specs.Find.{Ascends, Found, Missing, looked}
+use Rattle.repeats_laws.specs.Arrays.{length_insert}
+use Rattle.repeats_laws.specs.Find.{Found, Missing, looked}
 use Rattle.repeats_laws.specs.Fresh.{fresh, fresh_distinct}
-use Rattle.repeats_laws.specs.Grow.{Entry, low, new, high, entry, grown}
 use Rattle.repeats_laws.specs.Items.{item_at, item_end, after_end, items, item_same, item_alike}
 use Rattle.repeats_laws.specs.Exact.{Holds, not_true, more_held, z, empty}
 

@@ -1,15 +1,12 @@
 -- A file has at most 255 paths besides the free one, so of more than 256 two are the same. So `differ` is right on every table
-use Rattle.std.specs.Prelude.{ℕ, zero, suc, ◌+◌, ◌<◌, ◌≤◌, ◌≡◌, refl, Bool, true, false, not, List, [], ◌∷◌, length, drop}
-use Rattle.std.proofs.Common.{sym, ap, ◌∙◌, arith, leb-true}
+use Rattle.std.specs.Prelude.{ℕ, ◌≤◌, ◌≡◌, refl, true, List, length, drop}
+use Rattle.std.proofs.Common.{sym, ap, ◌∙◌, arith}
 use Rattle.std.proofs.Math.Option.{some}
 use Rattle.std.proofs.Math.Decide.{dec_lt}
-use Rattle.std.proofs.lemmas.Bool.{not-true}
 use Rattle.words.specs.Choose.{lt_yes}
-use Rattle.net_file.specs.Lists.{any, bit, count, distinct, eqs}
-use Rattle.net_file.specs.Values.{free_path}
+use Rattle.net_file.specs.Lists.{distinct, eqs}
 use Rattle.net_file.specs.Read.{times, read_path, paths_fit}
-use Rattle.list_laws.specs.Lists.{count_once, count_both, eqs_true}
-use Rattle.stored.specs.Stored.{table_at, path_at, path_end}
+use Rattle.stored.specs.Stored.{path_at, path_end}
 use Rattle.stored.specs.Laws.{stands_times, table_length}
 use Rattle.stored.specs.Parts.{stands_path}
 use Rattle.repeats.specs.declared.Item.TheVariants.{Path}

@@ -1,22 +1,21 @@
 -- A table of paths that was read: `differ` tells whether the paths are pairwise different.
-use Prim.Native.Nat.{ℕ, zero, suc, ◌+◌, ◌≤◌}
-use Rattle.std.specs.Prelude.{◌≡◌, Bool, true, false, List, drop}
-use Rattle.std.proofs.Math.Path.{refl, sym, ap}
+use Prim.Native.Nat.{ℕ, ◌+◌, ◌≤◌}
+use Rattle.std.specs.Prelude.{◌≡◌, List, drop}
+use Rattle.std.proofs.Math.Path.{sym, ap}
 use Rattle.std.proofs.Common.{◌∙◌}
 use Rattle.std.proofs.Math.Option.{some}
-use native.Mathlib.Omega.{arith}
 use Rattle.std.proofs.Math.ListN.{length}
-use Rattle.net_file.specs.Lists.{any, distinct, eqs}
+use Rattle.net_file.specs.Lists.{distinct, eqs}
 use Rattle.list_laws.specs.Tests.{same_test}
 use Rattle.list_laws.specs.Lists.{eqs_true, eqs_eq}
 use Rattle.net_file.specs.Read.{times, read_path}
 use Rattle.fields.specs.Fields.{byte}
-use Rattle.stored.specs.Stored.{table_at, bytes_at, path_at, path_end}
+use Rattle.stored.specs.Stored.{bytes_at, path_at, path_end}
 use Rattle.stored.specs.Laws.{stands_times}
 use Rattle.stored.specs.Parts.{stands_path}
 use Rattle.repeats.specs.declared.Item.TheVariants.{Path}
-use Rattle.repeats.specs.Repeats.{size_of, differ}
-use Rattle.repeats_laws.specs.Runs.{Alike, more, length_bytes, bytes_alike, alike_bytes}
+use Rattle.repeats.specs.Repeats.{differ}
+use Rattle.repeats_laws.specs.Runs.{more, length_bytes, bytes_alike, alike_bytes}
 use Rattle.repeats_laws.specs.Items.{item_at, item_end, items, item_same, item_alike}
 use Rattle.repeats_laws.proofs.Exact.{differ_exact}
 use Rattle.repeats_laws.specs.Paths.{distinct_table, alike_rest, path_end_lem, path_size}

@@ -7,10 +7,11 @@ use native.Mathlib.Omega.{arith}
 use Rattle.std.proofs.Math.Decide.{ℕ_discrete}
 use Rattle.std.proofs.Math.Nat.{two-pow-succ}
 use Rattle.words.specs.Choose.{lt_cases}
-use Rattle.repeats.specs.declared.Order.{Order}
-use Rattle.repeats.specs.declared.Order.TheVariants.{Less, Same, More}
+use Rattle.std.specs.Ordering.{is_eq}
+use Rattle.std.specs.declared.cmp.Ordering.{Ordering}
+use Rattle.std.specs.declared.cmp.Ordering.TheVariants.{Less, Equal, Greater}
 use Rattle.repeats.specs.declared.Span.{Span}
-use Rattle.repeats.specs.Repeats.{compare, on_less, is_same, narrow, narrowed, search, known}
+use Rattle.repeats.specs.Repeats.{compare, on_less, narrow, narrowed, search, known}
 use Rattle.repeats_laws.specs.Runs.{Alike, Before, Compared, compared, alike_sym, alike_not_before, before_by_first, before_by_second, before_asym}
 
 -- the first m entries of l ascend by what stands there
@@ -82,11 +83,11 @@ module _ (s l : List ℕ) (m at n : ℕ) (up : Ascends s l m) (fits : at + n ≤
       half : Span
       half = on_less (compare s (get_or l mid 0) at n) (record { lo = mid + 1; hi = w.hi }) (record { lo = w.lo; hi = mid })
 
-      go : (o : Order) → w.lo < w.hi → Compared s n (get_or l mid 0) at o
+      go : (o : Ordering) → w.lo < w.hi → Compared s n (get_or l mid 0) at o
           → Left s l m at n (on_less o (record { lo = mid + 1; hi = w.hi }) (record { lo = w.lo; hi = mid })) room
       go Less h b = low_half w room mid g h refl b
-      go Same h b = high_half w room mid g h refl (alike_not_before b)
-      go More h b = high_half w room mid g h refl (λ c. before_asym b c)
+      go Equal h b = high_half w room mid g h refl (alike_not_before b)
+      go Greater h b = high_half w room mid g h refl (λ c. before_asym b c)
 
   halves : (k : ℕ) (w : Span) → Left s l m at n w (2 ^ k) → Left s l m at n (narrowed s l at n w k) 1
   unfolding narrowed
@@ -104,8 +105,8 @@ module _ (s l : List ℕ) (m at n : ℕ) (up : Ascends s l m) (fits : at + n ≤
   })
 
   pub looked : m ≤ 1024 → Found s l m at n (search s l m at n) ⊎ Missing s l m at n (search s l m at n)
-  unfolding search known is_same
-  looked h = elim (lt_cases p m (is_same (compare s (get_or l p 0) at n)) false) [
+  unfolding search known
+  looked h = elim (lt_cases p m (is_eq (compare s (get_or l p 0) at n)) false) [
     | inl e ↦ met (compare s (get_or l p 0) at n) e.0 e.1 (compared s n (get_or l p 0) at (fit p e.0) fits)
     | inr e ↦ inr (record { told = e.1; inside = inside; below = g.below; above = λ j i r. absurd (omega arith) })
   ]
@@ -125,10 +126,10 @@ module _ (s l : List ℕ) (m at n : ℕ) (up : Ascends s l m) (fits : at + n ≤
       inside : p ≤ m
       inside = let v = g.within in omega (arith, met_end)
 
-      met : (o : Order) → p < m → known s l m p at n ≡ is_same o → Compared s n (get_or l p 0) at o → Found s l m at n p ⊎ Missing s l m at n p
+      met : (o : Ordering) → p < m → known s l m p at n ≡ is_eq o → Compared s n (get_or l p 0) at o → Found s l m at n p ⊎ Missing s l m at n p
       met Less i e b = absurd (g.above (omega (arith, met_end)) (rw (← met_end) b))
-      met Same i e b = inl (record { told = e; place = p; inside = i; alike = alike_sym b })
-      met More i e b = inr (record {
+      met Equal i e b = inl (record { told = e; place = p; inside = i; alike = alike_sym b })
+      met Greater i e b = inr (record {
         told = e;
         inside = inside;
         below = g.below;

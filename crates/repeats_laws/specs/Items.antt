@@ -1,12 +1,11 @@
 -- The items of a table as lists of bytes. Either kind tells its own size, so two items are the same where as many bytes as the
 -- first has are.
 use Prim.Native.Nat.{ℕ, zero, suc, ◌+◌, ◌≤◌}
-use Rattle.std.specs.Prelude.{◌≡◌, refl, Bool, true, false, ◌&&◌, List, [], ◌∷◌, eqb}
+use Rattle.std.specs.Prelude.{◌≡◌, List}
 use Rattle.std.proofs.Math.Path.{sym, ap}
-use Rattle.std.proofs.Common.{◌∙◌, add-zero, eqb-true, eq-eqb}
+use Rattle.std.proofs.Common.{◌∙◌, add-zero}
 use native.Mathlib.Omega.{arith}
 use Rattle.std.proofs.Math.ListN.{length}
-use Rattle.net_file.specs.Lists.{eqs}
 use Rattle.fields.specs.Fields.{byte}
 use Rattle.stored.specs.Stored.{table_at, table_end, bytes_at}
 use Rattle.repeats.specs.declared.Item.{Item}

@@ -1,20 +1,11 @@
 -- A file has at most 255 paths besides the free one, so of more than 256 two are the same. So `differ` is right on every table
 -- of paths that passes check 5, also on those that it does not look through.
-use Rattle.std.specs.Prelude.{ℕ, zero, suc, ◌+◌, ◌<◌, ◌≤◌, ◌≡◌, refl, Bool, true, false, not, List, [], ◌∷◌, length, drop}
-use Rattle.std.proofs.Common.{sym, ap, ◌∙◌, arith, leb-true}
-use Rattle.std.proofs.Math.Option.{some}
-use Rattle.std.proofs.Math.Decide.{dec_lt}
-use Rattle.std.proofs.lemmas.Bool.{not-true}
-use Rattle.words.specs.Choose.{lt_yes}
-use Rattle.net_file.specs.Lists.{any, bit, count, distinct, eqs}
+use Rattle.std.specs.Prelude.{ℕ, ◌<◌, ◌≤◌, ◌≡◌, refl, Bool, true, false, not, List, length}
+use Rattle.std.proofs.Common.{arith, leb-true}
+use Rattle.net_file.specs.Lists.{count, distinct, eqs}
 use Rattle.net_file.specs.Values.{free_path}
-use Rattle.net_file.specs.Read.{times, read_path, paths_fit}
+use Rattle.net_file.specs.Read.{paths_fit}
 use Rattle.list_laws.specs.Lists.{count_once, count_both, eqs_true}
-use Rattle.stored.specs.Stored.{table_at, path_at, path_end}
-use Rattle.stored.specs.Laws.{stands_times, table_length}
-use Rattle.stored.specs.Parts.{stands_path}
-use Rattle.repeats.specs.declared.Item.TheVariants.{Path}
-use Rattle.repeats.specs.Repeats.{differ}
 
 few : (ps : List (List ℕ)) → paths_fit ps ≡ true → distinct eqs ps ≡ true → length ps ≤ 256
 unfolding paths_fit

@@ -1,27 +1,16 @@
 -- A table of names that was read: `differ` tells whether the names are pairwise different.
-use Rattle.std.specs.Prelude.{ℕ, ◌+◌, ◌*◌, ◌<◌, ◌≤◌, ◌≡◌, List, get_or, drop}
+use Rattle.std.specs.Prelude.{ℕ, ◌+◌, ◌*◌, ◌<◌, ◌≡◌, List, get_or}
 use Rattle.std.proofs.Math.Path.{sym, ap}
 use Rattle.std.proofs.Common.{◌∙◌}
-use Rattle.std.proofs.Math.Option.{some}
 use native.Mathlib.Omega.{arith}
 use Rattle.std.proofs.Math.Nat.{add-zero}
 use Rattle.std.proofs.Math.ListN.{length}
-use borrow.Author.Tests.{eqb-true, eq-eqb}
-use Rattle.net_file.specs.Lists.{distinct, eqs}
-use Rattle.list_laws.specs.Tests.{both, same_test}
-use Rattle.list_laws.specs.Lists.{eqs_true, eqs_eq}
-use Rattle.net_file.specs.Values.{Name}
-use Rattle.net_file.specs.Read.{times_from, read_name}
-use Rattle.net_file.specs.Checks.{same_name}
 use Rattle.fields.specs.Fields.{byte, be16, be64}
-use Rattle.stored.specs.Stored.{numbers_at, list_at, list_end, name_at, name_end}
-use Rattle.stored.specs.Laws.{stands_times_from}
-use Rattle.stored.specs.Parts.{stands_name}
+use Rattle.stored.specs.Stored.{numbers_at, list_at, list_end, name_end}
 use Rattle.repeats.specs.declared.Item.TheVariants.{Name as Named}
-use Rattle.repeats.specs.Repeats.{size_of, differ}
+use Rattle.repeats.specs.Repeats.{size_of}
 use Rattle.repeats_laws.specs.Runs.{Alike, none, more, alike_at}
-use Rattle.repeats_laws.specs.Items.{item_at, item_end, items, item_same, item_alike}
-use Rattle.repeats_laws.specs.Paths.{distinct_table}
+use Rattle.repeats_laws.specs.Items.{item_end}
 use Rattle.repeats_laws.specs.Numbers.{alike_part, alike_join, be16_alike, be64_alike, numbers_alike, length_numbers, alike_be16, alike_be64, alike_numbers}
 
 module _ (s : List ℕ) where

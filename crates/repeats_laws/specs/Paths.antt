@@ -1,23 +1,15 @@
 -- A table of paths that was read: `differ` tells whether the paths are pairwise different.
-use Prim.Native.Nat.{ℕ, zero, suc, ◌+◌, ◌≤◌}
-use Rattle.std.specs.Prelude.{◌≡◌, Bool, true, false, List, drop}
-use Rattle.std.proofs.Math.Path.{refl, sym, ap}
-use Rattle.std.proofs.Common.{◌∙◌}
-use Rattle.std.proofs.Math.Option.{some}
+use Prim.Native.Nat.{ℕ, zero, suc, ◌+◌}
+use Rattle.std.specs.Prelude.{◌≡◌, Bool, List}
+use Rattle.std.proofs.Math.Path.{refl}
 use native.Mathlib.Omega.{arith}
-use Rattle.std.proofs.Math.ListN.{length}
-use Rattle.net_file.specs.Lists.{any, distinct, eqs}
-use Rattle.list_laws.specs.Tests.{same_test}
-use Rattle.list_laws.specs.Lists.{eqs_true, eqs_eq}
-use Rattle.net_file.specs.Read.{times, read_path}
+use Rattle.net_file.specs.Lists.{any, distinct}
 use Rattle.fields.specs.Fields.{byte}
-use Rattle.stored.specs.Stored.{table_at, bytes_at, path_at, path_end}
-use Rattle.stored.specs.Laws.{stands_times}
-use Rattle.stored.specs.Parts.{stands_path}
+use Rattle.stored.specs.Stored.{table_at, path_end}
 use Rattle.repeats.specs.declared.Item.TheVariants.{Path}
-use Rattle.repeats.specs.Repeats.{size_of, differ}
-use Rattle.repeats_laws.specs.Runs.{Alike, more, length_bytes, bytes_alike, alike_bytes}
-use Rattle.repeats_laws.specs.Items.{item_at, item_end, items, item_same, item_alike}
+use Rattle.repeats.specs.Repeats.{size_of}
+use Rattle.repeats_laws.specs.Runs.{Alike, more}
+use Rattle.repeats_laws.specs.Items.{item_end}
 
 -- ---- tables of the same places
 

@@ -7,8 +7,8 @@ use Rattle.std.proofs.Common.{sym, ◌∙◌, arith, add-zero}
 use Rattle.words.specs.Choose.{lt_no, lt_split}
 use Rattle.fields.specs.Fields.{byte}
 use Rattle.stored.specs.Stored.{table_at, bytes_at}
-use Rattle.repeats.specs.declared.Order.{Order}
-use Rattle.repeats.specs.declared.Order.TheVariants.{Less, Same, More}
+use Rattle.std.specs.declared.cmp.Ordering.{Ordering}
+use Rattle.std.specs.declared.cmp.Ordering.TheVariants.{Less, Equal, Greater}
 use Rattle.repeats.specs.Repeats.{compare_from, compare}
 
 -- the n bytes at a are those at b
@@ -88,21 +88,21 @@ module _ (s : List ℕ) where
 
   -- ---- what the comparison says
 
-  abbrev pub Compared : ℕ → ℕ → ℕ → Order → Type 0
+  abbrev pub Compared : ℕ → ℕ → ℕ → Ordering → Type 0
   Compared n a b Less = Before s n a b
-  Compared n a b Same = Alike s n a b
-  Compared n a b More = Before s n b a
+  Compared n a b Equal = Alike s n a b
+  Compared n a b Greater = Before s n b a
 
-  one_more : (n a b : ℕ) (o : Order) → byte s a ≡ byte s b → Compared n (a + 1) (b + 1) o → Compared (suc n) a b o
+  one_more : (n a b : ℕ) (o : Ordering) → byte s a ≡ byte s b → Compared n (a + 1) (b + 1) o → Compared (suc n) a b o
   one_more n a b Less e h = later e h
-  one_more n a b Same e h = more e h
-  one_more n a b More e h = later (sym e) h
+  one_more n a b Equal e h = more e h
+  one_more n a b Greater e h = later (sym e) h
 
   compared_from : (n a b : ℕ) → Compared n a b (compare_from s a b n)
   unfolding compare_from
   compared_from zero a b = none
-  compared_from (suc n) a b = lt_split _ _ _ _ (λ (o : Order). Compared (suc n) a b o) (λ h. here h) (λ h.
-      lt_split _ _ _ _ (λ (o : Order). Compared (suc n) a b o) (λ i. here i) (λ i.
+  compared_from (suc n) a b = lt_split _ _ _ _ (λ (o : Ordering). Compared (suc n) a b o) (λ h. here h) (λ h.
+      lt_split _ _ _ _ (λ (o : Ordering). Compared (suc n) a b o) (λ i. here i) (λ i.
       one_more n a b (compare_from s (a + 1) (b + 1) n) (omega arith) (compared_from n (a + 1) (b + 1))))
 
   pub compared : (n a b : ℕ) → a + n ≤ length s → b + n ≤ length s → Compared n a b (compare s a b n)

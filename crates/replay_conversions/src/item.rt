@@ -23,9 +23,7 @@ pub fn said(head: &[u8]) -> Item {
 
 // The entries, as they stand in bytes of two each.
 pub fn entries_of(bytes: &[u8], entries: &mut [u32]) {
-    let mut left = entries.len();
-    while left > 0 {
-        left -= 1;
-        words::put(entries, left, readers::be16_on(bytes, left, left) as u32);
+    for i in 0..entries.len() {
+        entries[i] = readers::be16_on(bytes, i, i) as u32;
     }
 }

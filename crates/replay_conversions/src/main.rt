@@ -7,24 +7,11 @@
 
 mod item;
 
-use convert_frame::Converted;
 use item::{Item, entries_of, said};
+use refusals::Refusal;
+use replaying::{MOST_FILES, Tally, broken_off, read_part};
 use std::array;
 use std::io::{self, Read};
-
-// A list is read no further than this.
-const MOST_FILES: u64 = 100000;
-
-// So many differences are shown; all are counted.
-const MOST_SHOWN: u64 = 10;
-
-// How the replay of a file went.
-#[derive(Clone, Copy)]
-enum Replayed {
-    Same,
-    Different,
-    Ended,
-}
 
 fn converted(
     item: Item,
@@ -32,7 +19,7 @@ fn converted(
     entries: &[u32],
     scratch: &mut [u32],
     out: &mut [u8],
-) -> Converted {
+) -> Result<usize, Refusal> {
     let call = item.call;
     match call {
         1 => flat_from_tree::flat_from_tree(file, scratch, out),
@@ -51,14 +38,14 @@ fn same_result(length: usize, expected: &[u8], out: &[u8]) -> bool {
     &out[..length] == expected
 }
 
-fn as_expected(answer: Converted, refusal: u32, expected: &[u8], out: &[u8]) -> bool {
+fn as_expected(answer: Result<usize, Refusal>, refusal: u32, expected: &[u8], out: &[u8]) -> bool {
     match answer {
-        Converted::Written(length) => refusal == 0 && same_result(length, expected, out),
-        Converted::Refused(number) => number == refusal,
+        Ok(length) => refusal == 0 && same_result(length, expected, out),
+        Err(by) => by.number() == refusal,
     }
 }
 
-// One item, with each part of what is lent as long as the item has it.
+// Whether an item's answer is as expected, with each part of what is lent as long as the item has it.
 fn replay_item(
     item: Item,
     file: &[u8],
@@ -66,25 +53,9 @@ fn replay_item(
     expected: &[u8],
     scratch: &mut [u32],
     out: &mut [u8],
-) -> Replayed {
+) -> bool {
     let answer = converted(item, file, entries, scratch, out);
-    if as_expected(answer, item.refusal, expected, out) {
-        Replayed::Same
-    } else {
-        Replayed::Different
-    }
-}
-
-// Reads as many bytes as `part` has room for.
-fn read_part(from: &mut impl Read, part: &mut [u8]) -> io::Result<bool> {
-    let got = input::read_full(from, part)?;
-    Ok(got == part.len())
-}
-
-// The end of a list whose last item is not whole, or is longer than the room for it.
-fn broken_off(rt: &impl Print) -> io::Result<Replayed> {
-    println!(rt; "the list breaks off")?;
-    Ok(Replayed::Ended)
+    as_expected(answer, item.refusal, expected, out)
 }
 
 // Reads the entries, the file and the expected result into the room that they fill, then replays.
@@ -98,21 +69,15 @@ fn replay_read(
     expected: &mut [u8],
     scratch: &mut [u32],
     out: &mut [u8],
-) -> io::Result<Replayed> {
-    if !read_part(from, listed)? {
-        return broken_off(rt);
-    }
-    if !read_part(from, file)? {
-        return broken_off(rt);
-    }
-    if !read_part(from, expected)? {
+) -> io::Result<Option<bool>> {
+    if !read_part(from, listed)? || !read_part(from, file)? || !read_part(from, expected)? {
         return broken_off(rt);
     }
     entries_of(listed, entries);
-    Ok(replay_item(item, file, entries, expected, scratch, out))
+    Ok(Some(replay_item(item, file, entries, expected, scratch, out)))
 }
 
-// Replays the next item of the list.
+// Replays the next item of the list: whether its answer is as expected; none at the list's end.
 fn replay_next(
     rt: &impl Print,
     from: &mut impl Read,
@@ -120,13 +85,13 @@ fn replay_next(
     expected: &mut [u8],
     scratch: &mut [u32],
     out: &mut [u8],
-) -> io::Result<Replayed> {
+) -> io::Result<Option<bool>> {
     let mut head = [0u8; 16];
     let mut listed = [0u8; 64];
     let mut entries = [0u32; 32];
     let got = input::read_full(from, &mut head)?;
     if got == 0 {
-        return Ok(Replayed::Ended);
+        return Ok(None);
     }
     let item = said(&head);
     let count = item.count;
@@ -157,23 +122,6 @@ fn show(rt: &impl Print, file: u64) -> io::Result<()> {
     println!(rt; "file {file} differs")
 }
 
-// One more difference, which is shown while they are few.
-fn counted(rt: &impl Print, different: u64, file: u64) -> io::Result<u64> {
-    if different < MOST_SHOWN {
-        show(rt, file)?;
-    }
-    if different < MOST_FILES {
-        return Ok(different + 1);
-    }
-    Ok(different)
-}
-
-#[derive(Clone, Copy)]
-struct Tally {
-    files: u64,
-    different: u64,
-}
-
 fn replay_all(
     rt: &impl Print,
     from: &mut impl Read,
@@ -182,28 +130,17 @@ fn replay_all(
     scratch: &mut [u32],
     out: &mut [u8],
 ) -> io::Result<Tally> {
-    let mut different = 0;
-    let mut left = MOST_FILES;
-    while left > 0 {
-        let gone = replay_next(rt, from, file, expected, scratch, out)?;
-        match gone {
-            Replayed::Same => {}
-            Replayed::Different => {
-                different = counted(rt, different, MOST_FILES - left)?;
-            }
-            Replayed::Ended => {
-                return Ok(Tally {
-                    files: MOST_FILES - left,
-                    different: different,
-                });
-            }
+    let mut tally = Tally::new();
+    for _ in 0..MOST_FILES {
+        let Some(same) = replay_next(rt, from, file, expected, scratch, out)? else {
+            break;
+        };
+        if !same && tally.shows() {
+            show(rt, tally.files)?;
         }
-        left -= 1;
+        tally = tally.counted(same);
     }
-    Ok(Tally {
-        files: MOST_FILES - left,
-        different: different,
-    })
+    Ok(tally)
 }
 
 fn main(rt: HostRuntime) -> io::Result<()> {

@@ -4,59 +4,40 @@
 // (0 accepted, else the number it is refused by), u32 big-endian length, the bytes. tests/README.md says how it is made.
 #![tactic(auto)]
 
-ghost use Rattle.std.specs.Prelude.{◌+◌, ◌≤◌, ◌<◌, ◌≡◌, IfOk};
+ghost use Rattle.std.specs.Prelude.{◌≡◌};
 ghost use Rattle.replay_files.specs.Stream.{file_length};
-ghost use Rattle.replay_files.specs.Tallied.{after};
-ghost use Rattle.replay_files.specs.Tallied.{compared as Tallied·compared};
+ghost use Rattle.replay_files.specs.Compared.{compared as Compared·compared};
 
-use net_check::Checked;
+use refusals::Refusal;
+use replaying::{MOST_FILES, Tally, broken_off};
 use std::array;
 use std::io::{self, Read};
 
 const TREE_CALL: u8 = 65;
-// A list is read no further than this.
-const MOST_FILES: u64 = 100000;
-// So many differences are shown; all are counted.
-const MOST_SHOWN: u64 = 10;
 
-// How the replay of a file went. `Different` holds the expected answer and the one that came.
+// The expected answer and another that came.
 #[derive(Clone, Copy)]
-enum Replayed {
-    Same,
-    Different(u8, u8),
-    Ended,
-}
-
-#[derive(Clone, Copy)]
-struct Tally {
-    files: u64,
-    different: u64,
-    ended: bool,
-}
-
-fn wide(byte: u8) -> usize
-    ensures value { result ≡ byte }
-    ensures upper_bound { result < 256 }
-{
-    byte as usize
+struct Difference {
+    expected: u32,
+    got: u32,
 }
 
 // The length field of a file's head.
 fn file_length(head: &[u8; 6]) -> usize
     ensures { result ≡ file_length head.now }
 {
-    wide(head[2]) * 16777216 + wide(head[3]) * 65536 + wide(head[4]) * 256 + wide(head[5])
+    u32::from_be_bytes([head[2], head[3], head[4], head[5]]) as usize
 }
 
 // 0 for accepted, else the number it is refused by.
-fn number(answer: Checked) -> u8 {
+fn number(answer: Result<(), Refusal>) -> u32 {
     match answer {
-        Checked::Accepted => 0,
-        Checked::Refused(n) => n,
+        Ok(()) => 0,
+        Err(refusal) => refusal.number(),
     }
 }
 
-fn answer(call: u8, file: &[u8]) -> u8 {
+fn answer(call: u8, file: &[u8]) -> u32 {
     if call == TREE_CALL {
         number(net_check::check_tree(file))
     } else {
@@ -64,22 +45,14 @@ fn answer(call: u8, file: &[u8]) -> u8 {
     }
 }
 
-fn compared(expected: u8, got: u8) -> Replayed
-    ensures { result ≡ Tallied·compared expected got }
+fn compared(expected: u32, got: u32) -> Result<(), Difference>
+    ensures { result ≡ Compared·compared expected got }
 {
     if expected == got {
-        Replayed::Same
+        Ok(())
     } else {
-        Replayed::Different(expected, got)
+        Err(Difference { expected, got })
     }
-}
-
-// The end of a list whose last file is not whole, or is longer than the room for it.
-fn broken_off(rt: &impl Print) -> io::Result<Replayed>
-    ensures { IfOk result (λ r. r ≡ Replayed.Ended) }
-{
-    println!(rt; "the list breaks off")?;
-    Ok(Replayed::Ended)
 }
 
 // Reads as many bytes as `file` has room for, and gives them to the checker.
@@ -87,88 +60,52 @@ fn replay_file(
     rt: &impl Print,
     from: &mut impl Read,
     call: u8,
-    expected: u8,
+    expected: u32,
     file: &mut [u8],
-) -> io::Result<Replayed> {
-    let got = input::read_full(from, file)?;
-    if got < file.len() {
+) -> io::Result<Option<Result<(), Difference>>> {
+    if !replaying::read_part(from, file)? {
         return broken_off(rt);
     }
-    Ok(compared(expected, answer(call, file)))
+    Ok(Some(compared(expected, answer(call, file))))
 }
 
-// Replays the next file of the list, in the room of `buf`.
-fn replay_next(rt: &impl Print, from: &mut impl Read, buf: &mut [u8]) -> io::Result<Replayed> {
+// Replays the next file of the list, in the room of `buf`; none at the list's end.
+fn replay_next(
+    rt: &impl Print,
+    from: &mut impl Read,
+    buf: &mut [u8],
+) -> io::Result<Option<Result<(), Difference>>> {
     let mut head = [0u8; 6];
     let got = input::read_full(from, &mut head)?;
     if got == 0 {
-        return Ok(Replayed::Ended);
+        return Ok(None);
     }
     let n = file_length(&head);
     if got < 6 || n > buf.len() {
         return broken_off(rt);
     }
-    replay_file(rt, from, head[0], head[1], &mut buf[..n])
+    replay_file(rt, from, head[0], head[1] as u32, &mut buf[..n])
 }
 
-fn show(rt: &impl Print, file: u64, expected: u8, got: u8) -> io::Result<()> {
-    println!(rt; "file {file}: expected {expected}, got {got}")
-}
-
-// Shows a difference while they are few.
-fn show_different(rt: &impl Print, tally: Tally, replayed: Replayed) -> io::Result<()> {
-    match replayed {
-        Replayed::Different(expected, got) => {
-            if tally.different < MOST_SHOWN {
-                show(rt, tally.files, expected, got)?;
-            }
-            Ok(())
-        }
-        Replayed::Same | Replayed::Ended => Ok(()),
-    }
-}
-
-// The tally after one file more.
-fn counted(tally: Tally, replayed: Replayed) -> Tally
-    requires files_bound { tally.files < 100000 }
-    requires different_le_files { tally.different ≤ tally.files }
-    ensures value { result ≡ after tally replayed }
-    ensures at_most_one_more { result.files ≤ tally.files + 1 }
-    ensures still_different_le_files { result.different ≤ result.files }
-{
-    let files = tally.files;
-    let different = tally.different;
-    match replayed {
-        Replayed::Same => Tally {
-            files: files + 1,
-            different: different,
-            ended: false,
-        },
-        Replayed::Different(_, _) => Tally {
-            files: files + 1,
-            different: different + 1,
-            ended: false,
-        },
-        Replayed::Ended => Tally {
-            files: files,
-            different: different,
-            ended: true,
-        },
-    }
+fn show(rt: &impl Print, file: u64, difference: Difference) -> io::Result<()> {
+    println!(rt;
+        "file {file}: expected {}, got {}",
+        difference.expected, difference.got
+    )
 }
 
 fn replay_all(rt: &impl Print, from: &mut impl Read, buf: &mut [u8]) -> io::Result<Tally> {
-    let mut tally = Tally {
-        files: 0,
-        different: 0,
-        ended: false,
-    };
-    let mut left = MOST_FILES;
-    while left > 0 && !tally.ended {
-        let replayed = replay_next(rt, from, buf)?;
-        show_different(rt, tally, replayed)?;
-        tally = counted(tally, replayed);
-        left -= 1;
+    let mut tally = Tally::new();
+    for _ in 0..MOST_FILES {
+        let Some(replayed) = replay_next(rt, from, buf)? else {
+            break;
+        };
+        if let Err(difference) = replayed {
+            if tally.shows() {
+                show(rt, tally.files, difference)?;
+            }
+        }
+        tally = tally.counted(replayed.is_ok());
     }
     Ok(tally)
 }

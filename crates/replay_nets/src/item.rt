@@ -15,20 +15,10 @@ pub struct Item {
     pub result: usize,
 }
 
-fn wide(byte: u8) -> u32
-    ensures { result < 256 }
-{
-    byte as u32
-}
-
 fn two(a: u8, b: u8) -> u32
     ensures { result < 65536 }
 {
-    wide(a) * 256 + wide(b)
-}
-
-fn four(a: u8, b: u8, c: u8, d: u8) -> u32 {
-    two(a, b) * 65536 + two(c, d)
+    u16::from_be_bytes([a, b]) as u32
 }
 
 pub fn said(head: &[u8; 24]) -> Item {
@@ -37,10 +27,10 @@ pub fn said(head: &[u8; 24]) -> Item {
         entries: two(head[6], head[7]),
         waits: two(head[8], head[9]),
         cut: head[10] == 1,
-        refusal: wide(head[11]),
-        steps: four(head[12], head[13], head[14], head[15]),
-        room: four(head[16], head[17], head[18], head[19]) as usize,
-        length: four(head[0], head[1], head[2], head[3]) as usize,
-        result: four(head[20], head[21], head[22], head[23]) as usize,
+        refusal: head[11] as u32,
+        steps: u32::from_be_bytes([head[12], head[13], head[14], head[15]]),
+        room: u32::from_be_bytes([head[16], head[17], head[18], head[19]]) as usize,
+        length: u32::from_be_bytes([head[0], head[1], head[2], head[3]]) as usize,
+        result: u32::from_be_bytes([head[20], head[21], head[22], head[23]]) as usize,
     }
 }

@@ -7,57 +7,14 @@
 
 mod item;
 mod run;
-mod same;
-
-ghost use Rattle.std.specs.Prelude.{◌≤◌};
 
 use item::{Item, said};
-use run::replay_item;
+use replaying::{MOST_FILES, Tally, broken_off, read_part};
+use run::{Place, replay_item};
 use std::array;
 use std::io::{self, Read};
 
-// A list is read no further than this.
-const MOST_FILES: u64 = 100000;
-
-// So many differences are shown; all are counted.
-const MOST_SHOWN: u64 = 10;
-
-// How the replay of a file went. `Different` holds the number of the place: 1 one call, 2 begin, 3 the uncut slice, 4 slices of
-// 1, 5 slices of 3, 6 slices of many sizes, 7 finish.
-#[derive(Clone, Copy)]
-enum Replayed {
-    Same,
-    Different(u64),
-    Ended,
-}
-
-#[derive(Clone, Copy)]
-struct Tally {
-    files: u64,
-    different: u64,
-}
-
-fn least(a: usize, b: usize) -> usize
-    ensures { result ≤ b }
-{
-    if a < b { a } else { b }
-}
-
-fn at_place(place: u64) -> Replayed {
-    if place == 0 {
-        Replayed::Same
-    } else {
-        Replayed::Different(place)
-    }
-}
-
-// Reads as many bytes as `part` has room for.
-fn read_part(from: &mut impl Read, part: &mut [u8]) -> io::Result<bool> {
-    let got = input::read_full(from, part)?;
-    Ok(got == part.len())
-}
-
-// One item, in the part of the room that it needs; 8 where it needs more.
+// One item, in the part of the room that it needs.
 fn replay_in(
     item: Item,
     words: &mut [u32],
@@ -67,15 +24,12 @@ fn replay_in(
     file: &[u8],
     expected: &[u8],
     out: &mut [u8],
-) -> u64 {
-    let used = least(
-        ivy::words(item.nodes, item.entries, item.waits),
-        words.len(),
-    );
+) -> Result<(), Place> {
+    let used = ivy::words(item.nodes, item.entries, item.waits).min(words.len());
     let length = item.length;
     let room = item.room;
     if used > other.len() || length > bytes.len() || length > held.len() || room > out.len() {
-        return 8;
+        return Err(Place::Room);
     }
     replay_item(
         item,
@@ -87,12 +41,6 @@ fn replay_in(
         expected,
         &mut out[..room],
     )
-}
-
-// The end of a list whose last item is not whole, or is longer than the room for it.
-fn broken_off(rt: &impl Print) -> io::Result<Replayed> {
-    println!(rt; "the list breaks off")?;
-    Ok(Replayed::Ended)
 }
 
 // Reads the file and the expected result into the room that they fill, then replays.
@@ -107,18 +55,15 @@ fn replay_read(
     file: &mut [u8],
     expected: &mut [u8],
     out: &mut [u8],
-) -> io::Result<Replayed> {
-    if read_part(from, file)? {
-        if read_part(from, expected)? {
-            let place = replay_in(item, words, other, bytes, held, file, expected, out);
-            return Ok(at_place(place));
-        }
+) -> io::Result<Option<Result<(), Place>>> {
+    if !read_part(from, file)? || !read_part(from, expected)? {
         return broken_off(rt);
     }
-    broken_off(rt)
+    let replayed = replay_in(item, words, other, bytes, held, file, expected, out);
+    Ok(Some(replayed))
 }
 
-// Replays the next item of the list.
+// Replays the next item of the list; none at the list's end.
 fn replay_next(
     rt: &impl Print,
     from: &mut impl Read,
@@ -129,11 +74,11 @@ fn replay_next(
     file: &mut [u8],
     expected: &mut [u8],
     out: &mut [u8],
-) -> io::Result<Replayed> {
+) -> io::Result<Option<Result<(), Place>>> {
     let mut head = [0u8; 24];
     let got = input::read_full(from, &mut head)?;
     if got == 0 {
-        return Ok(Replayed::Ended);
+        return Ok(None);
     }
     let item = said(&head);
     let length = item.length;
@@ -155,19 +100,8 @@ fn replay_next(
     )
 }
 
-fn show(rt: &impl Print, file: u64, place: u64) -> io::Result<()> {
-    println!(rt; "file {file}: differs at place {place}")
-}
-
-// One more difference, which is shown while they are few.
-fn counted(rt: &impl Print, different: u64, file: u64, place: u64) -> io::Result<u64> {
-    if different < MOST_SHOWN {
-        show(rt, file, place)?;
-    }
-    if different < MOST_FILES {
-        return Ok(different + 1);
-    }
-    Ok(different)
+fn show(rt: &impl Print, file: u64, place: Place) -> io::Result<()> {
+    println!(rt; "file {file}: differs at place {}", place as u8)
 }
 
 fn replay_all(
@@ -181,28 +115,20 @@ fn replay_all(
     expected: &mut [u8],
     out: &mut [u8],
 ) -> io::Result<Tally> {
-    let mut different = 0;
-    let mut left = MOST_FILES;
-    while left > 0 {
-        let gone = replay_next(rt, from, words, other, bytes, held, file, expected, out)?;
-        match gone {
-            Replayed::Same => {}
-            Replayed::Different(place) => {
-                different = counted(rt, different, MOST_FILES - left, place)?;
-            }
-            Replayed::Ended => {
-                return Ok(Tally {
-                    files: MOST_FILES - left,
-                    different: different,
-                });
+    let mut tally = Tally::new();
+    for _ in 0..MOST_FILES {
+        let Some(replayed) = replay_next(rt, from, words, other, bytes, held, file, expected, out)?
+        else {
+            break;
+        };
+        if let Err(place) = replayed {
+            if tally.shows() {
+                show(rt, tally.files, place)?;
             }
         }
-        left -= 1;
+        tally = tally.counted(replayed.is_ok());
     }
-    Ok(Tally {
-        files: MOST_FILES - left,
-        different: different,
-    })
+    Ok(tally)
 }
 
 fn main(rt: HostRuntime) -> io::Result<()> {

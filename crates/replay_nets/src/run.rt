@@ -1,12 +1,32 @@
 // One item: in one call, in one slice of none, and cut into slices in three ways.
 use crate::item::Item;
-use crate::same::{begins, same_bytes, same_words};
 use lent::Answer;
 
 const NONE: u32 = 4294967295;
 
 // No run that is cut has so many slices.
 const MOST_SLICES: u32 = 1000;
+
+// The places at which the answers of an item may differ.
+#[derive(Clone, Copy)]
+pub enum Place {
+    OneCall = 1,
+    Begin = 2,
+    UncutSlice = 3,
+    SlicesOfOne = 4,
+    SlicesOfThree = 5,
+    SlicesOfManySizes = 6,
+    Finish = 7,
+    // The item needs more room than there is.
+    Room = 8,
+}
+
+// How a run is cut: into slices of one size, or of many.
+#[derive(Clone, Copy)]
+enum Sizes {
+    All(u32),
+    Many,
+}
 
 // How a slice of a run went: so many steps are expected still, or the run is over, as expected or not.
 #[derive(Clone, Copy)]
@@ -15,9 +35,15 @@ enum Went {
     Over(bool),
 }
 
+// The place, where the answers there differ.
+fn expect(same: bool, place: Place) -> Result<(), Place> {
+    if same { Ok(()) } else { Err(place) }
+}
+
 // Whether the answer is the expected result's length, and the output begins with it.
 fn same_result(length: u32, expected: &[u8], out: &[u8]) -> bool {
-    length as usize == expected.len() && begins(out, expected)
+    let length = length as usize;
+    length == expected.len() && length <= out.len() && &out[..length] == expected
 }
 
 // An answer with an output, beside the refusal that is expected of it.
@@ -69,15 +95,12 @@ fn next(seed: u32) -> u32 {
     (seed % 65537) * 75 + 74
 }
 
-// The size of a slice: always 1, always 3, or by the seed 0 to 5.
-fn size(way: u64, seed: u32) -> u32 {
-    if way == 4 {
-        return 1;
+// The size of a slice: the one size, or by the seed 0 to 5.
+fn size(sizes: Sizes, seed: u32) -> u32 {
+    match sizes {
+        Sizes::All(n) => n,
+        Sizes::Many => seed / 16 % 6,
     }
-    if way == 5 {
-        return 3;
-    }
-    seed / 16 % 6
 }
 
 // After a slice of n that deducted so many steps, with so many expected still.
@@ -106,13 +129,12 @@ fn one_slice(item: Item, n: u32, left: u32, words: &mut [u32], bytes: &mut [u8])
 }
 
 // The run in slices, to its end or refusal.
-fn cut(item: Item, way: u64, words: &mut [u32], bytes: &mut [u8]) -> bool {
+fn cut(item: Item, sizes: Sizes, words: &mut [u32], bytes: &mut [u8]) -> bool {
     let mut left = item.steps;
     let mut seed = item.steps;
-    let mut slices = MOST_SLICES;
-    while slices > 0 {
+    for _ in 0..MOST_SLICES {
         seed = next(seed);
-        let gone = one_slice(item, size(way, seed), left, words, bytes);
+        let gone = one_slice(item, size(sizes, seed), left, words, bytes);
         match gone {
             Went::On(more) => {
                 left = more;
@@ -121,7 +143,6 @@ fn cut(item: Item, way: u64, words: &mut [u32], bytes: &mut [u8]) -> bool {
                 return well;
             }
         }
-        slices -= 1;
     }
     false
 }
@@ -129,61 +150,51 @@ fn cut(item: Item, way: u64, words: &mut [u32], bytes: &mut [u8]) -> bool {
 // The run cut this way, from its begin: the same steps, and the same words and bytes at the end.
 fn same_cut(
     item: Item,
-    way: u64,
+    sizes: Sizes,
     words: &[u32],
     other: &mut [u32],
     bytes: &[u8],
     held: &mut [u8],
     file: &[u8],
 ) -> bool {
-    if begun(item, other, held, file) != 0 {
-        return false;
-    }
-    if cut(item, way, other, held) {
-        return same_words(words, other) && same_bytes(bytes, held);
-    }
-    false
+    begun(item, other, held, file) == 0
+        && cut(item, sizes, other, held)
+        && words == &other[..]
+        && bytes == &held[..]
 }
 
-// Cut in each way: 0, or the number of the first that differs.
-fn cut_differs(
+// Cut in each way.
+fn replay_cuts(
     item: Item,
     words: &[u32],
     other: &mut [u32],
     bytes: &[u8],
     held: &mut [u8],
     file: &[u8],
-) -> u64 {
-    if same_cut(item, 4, words, other, bytes, held, file) {
-        if same_cut(item, 5, words, other, bytes, held, file) {
-            return if same_cut(item, 6, words, other, bytes, held, file) {
-                0
-            } else {
-                6
-            };
-        }
-        return 5;
-    }
-    4
+) -> Result<(), Place> {
+    let ones = same_cut(item, Sizes::All(1), words, other, bytes, held, file);
+    expect(ones, Place::SlicesOfOne)?;
+    let threes = same_cut(item, Sizes::All(3), words, other, bytes, held, file);
+    expect(threes, Place::SlicesOfThree)?;
+    let many = same_cut(item, Sizes::Many, words, other, bytes, held, file);
+    expect(many, Place::SlicesOfManySizes)
 }
 
-// The run in slices, from begin to finish: 0, or the number of the first place that differs.
-fn slices_differ(
+// The run in slices, from begin on.
+fn replay_slices(
     item: Item,
     words: &mut [u32],
     other: &mut [u32],
     bytes: &mut [u8],
     held: &mut [u8],
     file: &[u8],
-) -> u64 {
+) -> Result<(), Place> {
     let number = begun(item, words, bytes, file);
     if number != 0 {
-        return if number == item.refusal { 0 } else { 2 };
+        return expect(number == item.refusal, Place::Begin);
     }
-    if uncut(item, words, bytes) {
-        return cut_differs(item, words, other, bytes, held, file);
-    }
-    3
+    expect(uncut(item, words, bytes), Place::UncutSlice)?;
+    replay_cuts(item, words, other, bytes, held, file)
 }
 
 // Whether finish answers as it should after the run.
@@ -219,7 +230,7 @@ fn optimizes(
     as_expected(answer, item.refusal, expected, out)
 }
 
-// One item, with each part of what is lent as long as the item has it.
+// One item, with each part of what is lent as long as the item has it. It fails by the first place that differs.
 pub fn replay_item(
     item: Item,
     words: &mut [u32],
@@ -229,20 +240,14 @@ pub fn replay_item(
     file: &[u8],
     expected: &[u8],
     out: &mut [u8],
-) -> u64 {
-    if optimizes(item, words, bytes, file, expected, out) {
-        if !item.cut {
-            return 0;
-        }
-        let place = slices_differ(item, words, other, bytes, held, file);
-        if place != 0 {
-            return place;
-        }
-        return if finishes(item, words, bytes, expected, out) {
-            0
-        } else {
-            7
-        };
+) -> Result<(), Place> {
+    expect(
+        optimizes(item, words, bytes, file, expected, out),
+        Place::OneCall,
+    )?;
+    if !item.cut {
+        return Ok(());
     }
-    1
+    replay_slices(item, words, other, bytes, held, file)?;
+    expect(finishes(item, words, bytes, expected, out), Place::Finish)
 }

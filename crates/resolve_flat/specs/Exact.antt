@@ -1,6 +1,6 @@
 -- What the call answers and leaves is what the definitions say: on an accepted file the result is `write` of the file with each
 -- net's links resolved.
-use Rattle.std.specs.Prelude.{ℕ, suc, ◌+◌, ◌≤◌, ◌<◌, ◌≡◌, Bool, get_or, set, eqb}
+use Rattle.std.specs.Prelude.{Ok, Err, ℕ, suc, ◌+◌, ◌≤◌, ◌<◌, ◌≡◌, Bool, get_or, set, eqb}
 use Rattle.std.proofs.Math.Path.{refl, sym, ap}
 use Rattle.std.proofs.Common.{◌∙◌, get_or-set_other}
 use Rattle.std.proofs.Math.Bool.{true, false}
@@ -25,10 +25,9 @@ use Rattle.stored.specs.Body.{nets_at, body_end}
 use Rattle.ends.specs.Ends.{within, on, net_up, pairs_past, nodes_past}
 use Rattle.readers_laws.specs.Reads.{read_inside}
 use Rattle.clear.specs.Zeroed.{zeroed}
-use Rattle.net_check.specs.Verdict.{verdict}
-use Rattle.net_check.specs.declared.Checked.{Checked}
-use Rattle.net_check.specs.declared.Checked.TheVariants.{Accepted}
-use Rattle.net_check.specs.declared.Checked.TheVariants.{Refused as Checked-as-Refused}
+use Rattle.refusals.specs.declared.Refusal.{Refusal}
+use Rattle.refusals.specs.declared.Refusal.TheVariants.{TooLittleLent}
+use Rattle.net_check.specs.Verdict.{Checked, verdict}
 use Rattle.wire_marks.specs.Marks.{mark, marked, canon}
 use Rattle.wire_marks.specs.Canonical.{Ordered, a_pair, canon_exact, length_marked, Below, below_marked}
 use Rattle.wire_places.specs.Places.{seen, places_inside, length_seen, seen_first, seen_all, occurs_exact}
@@ -38,11 +37,11 @@ use Rattle.flat_writers.specs.Flat.{renamed, unused_by, resolved_by, resolved_by
 use Rattle.pair_writers.specs.Pairs.{used, net_part, net_inside_lem}
 use Rattle.convert_laws.specs.Tables.{count_inside}
 use Rattle.convert_laws.specs.Frame.{with_nets, framed, convert_done, map_nets_lem, nets_stand, frame_written}
-use Rattle.convert_frame.specs.declared.Converted.{Converted}
-use Rattle.convert_frame.specs.declared.Converted.TheVariants.{Refused}
+use Rattle.convert_frame.specs.Called.{Converted}
 use Rattle.convert_frame.specs.Head.{head_bytes, head_length, head_framed}
 use Rattle.convert_frame.specs.Called.{scratch_words, long, Called, Given, called_short, called_unread, called_read}
 use Rattle.convert_frame.specs.Nets.{nets_exact}
+use Rattle.flat_frame.specs.Nets.{parts_of, whole_of, result_of}
 use Rattle.resolve_flat.specs.Nets.{mark_net, flat_nets, flat_whole, flat_result}
 
 -- ---- two ways to say which wires are one, and which occur
@@ -153,13 +152,13 @@ module _ (s ws : List ℕ) (b : Bytes s) (l : scratch_words ≤ length ws) (x : 
   inside = read_inside flat flat_net_at flat_net_end s (stands_net s) x e
 
   nets_are : flat_nets s (zeroed 131072 ws) 0 (q + 2) (be16 s q) ≡ nets_of
-  unfolding flat_nets nets_of nets nets_at q
+  unfolding parts_of nets_of nets nets_at q
   nets_are =
       nets_exact s (mark_net s) (λ ws stamp at. net_part ws stamp s at) (flat_net_end s) (flat_net_at s) (λ n. write_flat_net (resolve_flat n)) Low Good (net_up s)
       (kept s) (same s) (zeroed 131072 ws) 0 (q + 2) (be16 s q) inside each_low (good_zeroed ws l)
 
   whole_is : (n : ℕ) → flat_whole s ws n ≡ head_bytes s q 1 (be16 s q) n ++ nets_of
-  unfolding flat_whole q
+  unfolding whole_of q
   whole_is n =
       let i = count_inside flat flat_net_at flat_net_end s (stands_net s) b x e in
       let w : within s (net_count_at s) ≡ net_count_at s = omega arith in
@@ -167,7 +166,7 @@ module _ (s ws : List ℕ) (b : Bytes s) (l : scratch_words ≤ length ws) (x : 
       rw (w, o) (ap (λ t. head_bytes s (net_count_at s) 1 (be16 s (net_count_at s)) n ++ t) nets_are)
 
   result_is : flat_result s ws ≡ framed s 1 (be 2 (be16 s q) ++ nets_of)
-  unfolding flat_result q
+  unfolding result_of q
   result_is =
       let k : length (flat_whole s ws 0) ≡ length (framed s 1 (be 2 (be16 s q) ++ nets_of)) = ap length (whole_is 0) ∙ head_length s 1 (be16 s q) nets_of 0 in
       whole_is (length (flat_whole s ws 0)) ∙ head_framed s 1 (be16 s q) nets_of (length (flat_whole s ws 0)) k
@@ -192,16 +191,16 @@ module _ (s ws : List ℕ) (b : Bytes s) (l : scratch_words ≤ length ws) (x : 
 -- ---- the ways out of the call
 
 module _ (s ws out : List ℕ) where
-  pub call_short : length ws < scratch_words → Called (resolve_flat_call (long ws) (length out) s) ws out (Refused 1) ws out
+  pub call_short : length ws < scratch_words → Called (resolve_flat_call (long ws) (length out) s) ws out (Err TooLittleLent) ws out
   unfolding resolve_flat_call
   call_short h = called_short flat flat (λ n. ok (resolve_flat n)) s ws out h
 
-  pub call_unread : (c : Checked) (r : ℕ) → scratch_words ≤ length ws → c ≡ verdict (read flat s) → c ≡ Checked-as-Refused r
-      → Called (resolve_flat_call (long ws) (length out) s) ws out (Refused r) ws out
+  pub call_unread : (c : Checked) (r : Refusal) → scratch_words ≤ length ws → c ≡ verdict (read flat s) → c ≡ Err r
+      → Called (resolve_flat_call (long ws) (length out) s) ws out (Err r) ws out
   unfolding resolve_flat_call
   call_unread c r h ec er = called_unread flat flat (λ n. ok (resolve_flat n)) s ws out c r h ec er
 
-  pub call_read : (b : (i : ℕ) → get_or s i 0 < 256) (c : Checked) (r : Converted) (ws' out' : List ℕ) → scratch_words ≤ length ws → c ≡ verdict (read flat s) → c ≡ Accepted
+  pub call_read : (b : (i : ℕ) → get_or s i 0 < 256) (c : Checked) (r : Converted) (ws' out' : List ℕ) → scratch_words ≤ length ws → c ≡ verdict (read flat s) → c ≡ Ok tt
       → Given (fitted (length out) (flat_result s ws)) ws out r ws' out' → Called (resolve_flat_call (long ws) (length out) s) ws out r ws' out'
   unfolding resolve_flat_call
   call_read b c r ws' out' h ec ea g =

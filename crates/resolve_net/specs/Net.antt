@@ -6,9 +6,8 @@ use Rattle.fields.specs.Fields.{be16, be32}
 use Rattle.ends.specs.Ends.{within}
 use Rattle.scan_tree.specs.Count.{links_at}
 use Rattle.resolve_pass.specs.Pass.{wire_links, free_links, pass}
-use Rattle.resolve_walk.specs.declared.Stepped.{Stepped}
-use Rattle.resolve_walk.specs.declared.Stepped.TheVariants.{At, Deep}
-use Rattle.resolve_walk.specs.Penned.{Penned}
+use Rattle.std.specs.Prelude.{Some, None}
+use Rattle.resolve_walk.specs.Penned.{Stepped, Penned}
 use Rattle.resolve_walk.specs.Walk.{on_step}
 use Rattle.resolve_net.specs.declared.Ready.{Ready}
 use Rattle.resolve_net.specs.Plain.{plain}
@@ -16,7 +15,7 @@ use Rattle.resolve_net.specs.Renamed.{renamed}
 
 -- with the place of the file to go on from
 unfoldable pub onward : Stepped → ℕ → Stepped
-onward t from = on_step t (λ pen. At (record { from = from; to = pen.to })) Deep
+onward t from = on_step t (λ pen. Some (record { from = from; to = pen.to })) None
 
 module _ (s : List ℕ) where
   -- the wire counter of the net at a place
@@ -41,7 +40,7 @@ module _ (s : List ℕ) where
   resolved r ws out at to =
       let p = plain s ws out at r.links r.kept to in
       let q = renamed s ws out at r.links (wires_at at) r.kept to in
-      if_eq r.left 0 (record { is = At (record { from = r.end; to = p.is }); ws = ws; out = p.out })
+      if_eq r.left 0 (record { is = Some (record { from = r.end; to = p.is }); ws = ws; out = p.out })
       (record { is = onward q.is r.end; ws = q.ws; out = q.out })
 
   -- of the links whose count stands at a place nothing is left in the tables

@@ -1,6 +1,6 @@
 -- A net in which no tree is left hanging, written as it stands, on words and bytes. Document 01: "where no tree hangs on a wire it
 -- renames nothing". Level Words.
-use Rattle.std.specs.Prelude.{ℕ, zero, suc, ◌+◌, ◌%◌, List}
+use Rattle.std.specs.Prelude.{ℕ, zero, suc, ◌%◌, List}
 use Rattle.net_file.specs.Write.{be}
 use Rattle.store.specs.Store.{store, between}
 use Rattle.wire_tables.specs.Tables.{kept_left, kept_right}

@@ -10,9 +10,8 @@ use Rattle.wire_tables.specs.Tables.{hung, kept_left, kept_right}
 use Rattle.wire_blocks.specs.Blocks.{looked}
 use Rattle.wire_blocks.specs.Laws.{wires_from}
 use Rattle.resolve_pass.specs.Pass.{next, hung_links, marked_links}
-use Rattle.resolve_walk.specs.declared.Stepped.{Stepped}
-use Rattle.resolve_walk.specs.declared.Stepped.TheVariants.{At, Deep}
-use Rattle.resolve_walk.specs.Penned.{Penned, Inked}
+use Rattle.std.specs.Prelude.{Some, None}
+use Rattle.resolve_walk.specs.Penned.{Stepped, Penned, Inked}
 use Rattle.resolve_walk.specs.Walk.{on, on_step, tree, trees}
 use Rattle.resolve_net.specs.declared.Listed.{Listed}
 use Rattle.resolve_net.specs.Plain.{copy_tree}
@@ -22,14 +21,14 @@ module _ (s : List ℕ) where
   unfoldable pub visit_link : List ℕ → List ℕ → ℕ → ℕ → Penned Stepped
   visit_link ws out i to =
       let a = tree s 64 ws out (kept_left ws i) to in
-      on_step a.is (λ pen. tree s 64 a.ws a.out (kept_right ws i) pen.to) (record { is = Deep; ws = a.ws; out = a.out })
+      on_step a.is (λ pen. tree s 64 a.ws a.out (kept_right ws i) pen.to) (record { is = None; ws = a.ws; out = a.out })
 
   -- k kept links from link i on
   unfoldable pub visit_links : ℕ → List ℕ → List ℕ → ℕ → ℕ → Penned Stepped
-  visit_links zero ws out i to = record { is = At (record { from = 0; to = to }); ws = ws; out = out }
+  visit_links zero ws out i to = record { is = Some (record { from = 0; to = to }); ws = ws; out = out }
   visit_links (suc k) ws out i to =
       let r = visit_link ws out i to in
-      on_step r.is (λ pen. visit_links k r.ws r.out (next i) pen.to) (record { is = Deep; ws = r.ws; out = r.out })
+      on_step r.is (λ pen. visit_links k r.ws r.out (next i) pen.to) (record { is = None; ws = r.ws; out = r.out })
 
   -- a wire, then the tree that is left on it as it stands
   unfoldable pub list_tree : List ℕ → ℕ → ℕ → Listed → Inked Listed
@@ -76,8 +75,8 @@ module _ (s : List ℕ) where
   renamed_links ws out links wires kept to =
       let r = visit_links kept ws out 0 (on to 2) in
       on_step r.is
-      (λ pen. let e = end_links r.ws r.out links wires kept to pen.to in record { is = At (record { from = 0; to = e.is }); ws = r.ws; out = e.out })
-      (record { is = Deep; ws = r.ws; out = r.out })
+      (λ pen. let e = end_links r.ws r.out links wires kept to pen.to in record { is = Some (record { from = 0; to = e.is }); ws = r.ws; out = e.out })
+      (record { is = None; ws = r.ws; out = r.out })
 
   -- the net at a place: its head and free count, its free trees visited, its links
   unfoldable pub renamed : List ℕ → List ℕ → ℕ → ℕ → ℕ → ℕ → ℕ → Penned Stepped
@@ -85,4 +84,4 @@ module _ (s : List ℕ) where
       let from = within s (at + 8) in
       let n = byte s (within s (at + 7)) in
       let r = trees (tree s 64) n ws (store to (between s at from) out) from (on to 8) in
-      on_step r.is (λ pen. renamed_links r.ws r.out links wires kept pen.to) (record { is = Deep; ws = r.ws; out = r.out })
+      on_step r.is (λ pen. renamed_links r.ws r.out links wires kept pen.to) (record { is = None; ws = r.ws; out = r.out })

@@ -1,10 +1,9 @@
 -- What a function of the crate leaves on each way out, and one turn of each loop, in the words of its tests and calls.
 use Rattle.std.specs.Prelude.{◌≡◌, ℕ, zero, suc, ◌+◌, ◌-◌, ◌*◌, ◌%◌, ◌<◌, ◌≤◌, List, replicate, ◌≢◌}
 use Rattle.std.proofs.Math.Path.{refl}
-use Rattle.std.proofs.Common.{sym, ap, ◌∙◌, not-suc-le-zero, sub-one}
+use Rattle.std.proofs.Common.{ap, not-suc-le-zero, sub-one}
 use native.Mathlib.Omega.{arith}
 use Rattle.words.specs.Choose.{eq_yes, eq_no, lt_yes, lt_no}
-use Rattle.words.specs.Left
 use Rattle.net_file.specs.Write.{be}
 use Rattle.fields.specs.Fields.{byte, be16}
 use Rattle.ends.specs.Ends.{within}
@@ -15,9 +14,8 @@ use Rattle.wire_blocks.specs.Ways.{looked_more, looked_done}
 use Rattle.wire_blocks.specs.Laws.{wires_from}
 use Rattle.resolve_pass.specs.Pass.{next, hung_links, marked_links}
 use Rattle.resolve_walk.specs.declared.Pen.{Pen}
-use Rattle.resolve_walk.specs.declared.Stepped.{Stepped}
-use Rattle.resolve_walk.specs.declared.Stepped.TheVariants.{At, Deep}
-use Rattle.resolve_walk.specs.Penned.{Penned, Inked, whole}
+use Rattle.std.specs.Prelude.{Some, None}
+use Rattle.resolve_walk.specs.Penned.{Stepped, Penned, Inked, whole}
 use Rattle.resolve_walk.specs.Walk.{on, on_step, tree, trees}
 use Rattle.resolve_net.specs.declared.Listed.{Listed}
 use Rattle.resolve_net.specs.declared.Ready.{Ready}
@@ -86,18 +84,18 @@ module _ (s ws : List ℕ) where
 
 module _ (s ws v out o₁ : List ℕ) (i a b to : ℕ) (t : Stepped) (ea : a ≡ kept_left ws i) (eb : b ≡ kept_right ws i) (et : t ≡ (tree s 64 ws out a to).is)
     (ev : v ≡ (tree s 64 ws out a to).ws) (e₁ : o₁ ≡ (tree s 64 ws out a to).out) where
-  pub visit_link_on : (w o : List ℕ) (pen : Pen) (q : Stepped) → t ≡ At pen → q ≡ (tree s 64 v o₁ b pen.to).is → w ≡ (tree s 64 v o₁ b pen.to).ws
+  pub visit_link_on : (w o : List ℕ) (pen : Pen) (q : Stepped) → t ≡ Some pen → q ≡ (tree s 64 v o₁ b pen.to).is → w ≡ (tree s 64 v o₁ b pen.to).ws
       → o ≡ (tree s 64 v o₁ b pen.to).out → record { is = q; ws = w; out = o } ≡ visit_link s ws out i to
   unfolding visit_link on_step
   visit_link_on w o pen q h eq ew eo = rw (← ea, ← eb, ← et, ← ev, ← e₁, h) (whole (tree s 64 v o₁ b pen.to) eq ew eo)
 
-  pub visit_link_deep : t ≡ Deep → record { is = Deep; ws = v; out = o₁ } ≡ visit_link s ws out i to
+  pub visit_link_deep : t ≡ None → record { is = None; ws = v; out = o₁ } ≡ visit_link s ws out i to
   unfolding visit_link on_step
   visit_link_deep h = rw (← ea, ← eb, ← et, ← ev, ← e₁, h) refl
 
 module _ (s ws w out o : List ℕ) (i to k : ℕ) (t : Stepped) (x : Penned Stepped) (g : visit_links s k ws out i to ≡ x) (h : 0 < k)
     (et : t ≡ (visit_link s ws out i to).is) (ew : w ≡ (visit_link s ws out i to).ws) (eo : o ≡ (visit_link s ws out i to).out) where
-  pub visit_links_more : (j : ℕ) (pen : Pen) → t ≡ At pen → j ≡ (i + 1) % 4294967296 → visit_links s (k - 1) w o j pen.to ≡ x
+  pub visit_links_more : (j : ℕ) (pen : Pen) → t ≡ Some pen → j ≡ (i + 1) % 4294967296 → visit_links s (k - 1) w o j pen.to ≡ x
   unfolding visit_links on_step next
   visit_links_more j pen e ej = go k g h
     where
@@ -105,16 +103,16 @@ module _ (s ws w out o : List ℕ) (i to k : ℕ) (t : Stepped) (x : Penned Step
       go zero f l = absurd (not-suc-le-zero l)
       go (suc n) f l = rw (sub-one, ew, eo, ej) (rw (← et, e) at f)
 
-  pub visit_links_deep : t ≡ Deep → record { is = Deep; ws = w; out = o } ≡ x
+  pub visit_links_deep : t ≡ None → record { is = None; ws = w; out = o } ≡ x
   unfolding visit_links on_step
   visit_links_deep e = go k g h
     where
-      go : (n : ℕ) → visit_links s n ws out i to ≡ x → 0 < n → record { is = Deep; ws = w; out = o } ≡ x
+      go : (n : ℕ) → visit_links s n ws out i to ≡ x → 0 < n → record { is = None; ws = w; out = o } ≡ x
       go zero f l = absurd (not-suc-le-zero l)
       go (suc n) f l = rw (ew, eo) (rw (← et, e) at f)
 
 pub visit_links_done : (s ws out : List ℕ) (i k to : ℕ) (x : Penned Stepped) → visit_links s k ws out i to ≡ x → k ≤ 0
-    → record { is = At (record { from = 0; to = to }); ws = ws; out = out } ≡ x
+    → record { is = Some (record { from = 0; to = to }); ws = ws; out = out } ≡ x
 unfolding visit_links
 visit_links_done s ws out i zero to x g h = g
 visit_links_done s ws out i (suc k) to x g h = absurd (not-suc-le-zero h)
@@ -149,40 +147,40 @@ module _ (s ws out o : List ℕ) (links wires n m to : ℕ) (c : Listed) (en : n
 
 module _ (s ws v out o₁ : List ℕ) (links wires kept to p : ℕ) (t : Stepped) (ep : p ≡ on to 2) (et : t ≡ (visit_links s kept ws out 0 p).is)
     (ev : v ≡ (visit_links s kept ws out 0 p).ws) (e₁ : o₁ ≡ (visit_links s kept ws out 0 p).out) where
-  pub links_on : (o : List ℕ) (pen : Pen) (e : ℕ) → t ≡ At pen → e ≡ (end_links s v o₁ links wires kept to pen.to).is → o ≡ (end_links s v o₁ links wires kept to pen.to).out
-      → record { is = At (record { from = 0; to = e }); ws = v; out = o } ≡ renamed_links s ws out links wires kept to
+  pub links_on : (o : List ℕ) (pen : Pen) (e : ℕ) → t ≡ Some pen → e ≡ (end_links s v o₁ links wires kept to pen.to).is → o ≡ (end_links s v o₁ links wires kept to pen.to).out
+      → record { is = Some (record { from = 0; to = e }); ws = v; out = o } ≡ renamed_links s ws out links wires kept to
   unfolding renamed_links on_step
   links_on o pen e h ee eo = rw (← ep, ← et, ← ev, ← e₁, h) (rw (← ee, ← eo))
 
-  pub links_deep : t ≡ Deep → record { is = Deep; ws = v; out = o₁ } ≡ renamed_links s ws out links wires kept to
+  pub links_deep : t ≡ None → record { is = None; ws = v; out = o₁ } ≡ renamed_links s ws out links wires kept to
   unfolding renamed_links on_step
   links_deep h = rw (← ep, ← et, ← ev, ← e₁, h)
 
 module _ (s ws v out o₁ o₂ : List ℕ) (at links wires kept to from f n p : ℕ) (t : Stepped) (ef : from ≡ within s (at + 8)) (ex : f ≡ within s (at + 7)) (en : n ≡ byte s f)
     (e₁ : o₁ ≡ store to (between s at from) out) (ep : p ≡ on to 8) (et : t ≡ (trees (tree s 64) n ws o₁ from p).is) (ev : v ≡ (trees (tree s 64) n ws o₁ from p).ws)
     (e₂ : o₂ ≡ (trees (tree s 64) n ws o₁ from p).out) where
-  pub renamed_on : (w o : List ℕ) (pen : Pen) (q : Stepped) → t ≡ At pen → q ≡ (renamed_links s v o₂ links wires kept pen.to).is
+  pub renamed_on : (w o : List ℕ) (pen : Pen) (q : Stepped) → t ≡ Some pen → q ≡ (renamed_links s v o₂ links wires kept pen.to).is
       → w ≡ (renamed_links s v o₂ links wires kept pen.to).ws → o ≡ (renamed_links s v o₂ links wires kept pen.to).out
       → record { is = q; ws = w; out = o } ≡ renamed s ws out at links wires kept to
   unfolding renamed on_step
   renamed_on w o pen q h eq ew eo =
       rw (← ef, ← ex, ← en, ← e₁, ← ep, ← et, ← ev, ← e₂, h) (whole (renamed_links s v o₂ links wires kept pen.to) eq ew eo)
 
-  pub renamed_deep : t ≡ Deep → record { is = Deep; ws = v; out = o₂ } ≡ renamed s ws out at links wires kept to
+  pub renamed_deep : t ≡ None → record { is = None; ws = v; out = o₂ } ≡ renamed s ws out at links wires kept to
   unfolding renamed on_step
   renamed_deep h = rw (← ef, ← ex, ← en, ← e₁, ← ep, ← et, ← ev, ← e₂, h)
 
-pub onward_on : (t : Stepped) (from : ℕ) (pen : Pen) → t ≡ At pen → At (record { from = from; to = pen.to }) ≡ onward t from
+pub onward_on : (t : Stepped) (from : ℕ) (pen : Pen) → t ≡ Some pen → Some (record { from = from; to = pen.to }) ≡ onward t from
 unfolding onward on_step
 onward_on t from pen e = rw e
 
-pub onward_deep : (t : Stepped) (from : ℕ) → t ≡ Deep → Deep ≡ onward t from
+pub onward_deep : (t : Stepped) (from : ℕ) → t ≡ None → None ≡ onward t from
 unfolding onward on_step
 onward_deep t from e = rw e
 
 module _ (s ws out : List ℕ) (at to : ℕ) (r : Ready) where
   pub net_plain : (o : List ℕ) (p : ℕ) → r.left ≡ 0 → p ≡ (plain s ws out at r.links r.kept to).is → o ≡ (plain s ws out at r.links r.kept to).out
-      → record { is = At (record { from = r.end; to = p }); ws = ws; out = o } ≡ resolved s r ws out at to
+      → record { is = Some (record { from = r.end; to = p }); ws = ws; out = o } ≡ resolved s r ws out at to
   unfolding resolved
   net_plain o p z ep eo = eq_yes _ _ _ _ z (rw (ep, eo))
 

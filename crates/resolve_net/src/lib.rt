@@ -8,7 +8,7 @@ ghost use Rattle.resolve_net.specs.Plain.{copy_tree, copy_link, copy_links, plai
 ghost use Rattle.resolve_net.specs.Renamed.{visit_link, visit_links, circle, circles, left_below, left_circles, end_links, renamed_links, renamed};
 ghost use Rattle.resolve_net.specs.Net.{wires_at, pass_links, prepare, onward, resolved, freed, net};
 
-use resolve_walk::{Pen, Stepped};
+use resolve_walk::Pen;
 
 // ---- as it stands
 
@@ -35,13 +35,9 @@ fn copy_link(ws: &[u32], s: &[u8], out: &mut [u8], i: u32, to: usize) -> usize
 fn copy_links(ws: &[u32], s: &[u8], out: &mut [u8], n: u32, to: usize) -> usize
     ensures { (result ≡ (copy_links s.now ws.now n out.old 0 to).is) × (out.new ≡ (copy_links s.now ws.now n out.old 0 to).out) }
 {
-    let mut i: u32 = 0;
-    let mut k = n;
     let mut place = to;
-    while 0 < k {
+    for i in 0..n {
         place = copy_link(ws, s, out, i, place);
-        i = std::num::wrapping_add_u32(i, 1);
-        k -= 1;
     }
     place
 }
@@ -67,39 +63,25 @@ fn plain(
 // ---- renamed
 
 // Kept link i, its two trees visited one after the other.
-fn visit_link(ws: &mut [u32], s: &[u8], out: &mut [u8], i: u32, to: usize) -> Stepped
+fn visit_link(ws: &mut [u32], s: &[u8], out: &mut [u8], i: u32, to: usize) -> Option<Pen>
     ensures { (result ≡ (visit_link s.now ws.old out.old i to).is) × (ws.new ≡ (visit_link s.now ws.old out.old i to).ws) × (out.new ≡ (visit_link s.now ws.old out.old i to).out) }
 {
     let a = wire_tables::kept_left(ws, i);
     let b = wire_tables::kept_right(ws, i);
-    let t = resolve_walk::tree(ws, s, out, a as usize, to, 64);
-    match t {
-        Stepped::At(pen) => resolve_walk::tree(ws, s, out, b as usize, pen.to, 64),
-        Stepped::Deep => Stepped::Deep,
-    }
+    let pen = resolve_walk::tree(ws, s, out, a as usize, to, 64)?;
+    resolve_walk::tree(ws, s, out, b as usize, pen.to, 64)
 }
 
 // n kept links.
-fn visit_links(ws: &mut [u32], s: &[u8], out: &mut [u8], n: u32, to: usize) -> Stepped
+fn visit_links(ws: &mut [u32], s: &[u8], out: &mut [u8], n: u32, to: usize) -> Option<Pen>
     ensures { (result ≡ (visit_links s.now n ws.old out.old 0 to).is) × (ws.new ≡ (visit_links s.now n ws.old out.old 0 to).ws) × (out.new ≡ (visit_links s.now n ws.old out.old 0 to).out) }
 {
-    let mut i: u32 = 0;
-    let mut k = n;
     let mut place = to;
-    while 0 < k {
-        let t = visit_link(ws, s, out, i, place);
-        match t {
-            Stepped::At(pen) => {
-                place = pen.to;
-            }
-            Stepped::Deep => {
-                return Stepped::Deep;
-            }
-        }
-        i = std::num::wrapping_add_u32(i, 1);
-        k -= 1;
+    for i in 0..n {
+        let pen = visit_link(ws, s, out, i, place)?;
+        place = pen.to;
     }
-    Stepped::At(Pen { from: 0, to: place })
+    Some(Pen { from: 0, to: place })
 }
 
 // How many circles were listed, and the place behind them.
@@ -130,16 +112,15 @@ fn circle(ws: &[u32], s: &[u8], out: &mut [u8], w: u16, c: Listed) -> Listed
 fn all_circles(ws: &[u32], s: &[u8], out: &mut [u8], wires: u32, to: usize) -> Listed
     ensures { (result ≡ (circles s.now ws.now (wires_from 0 wires) out.old (record { count = 0; to = to })).is) × (out.new ≡ (circles s.now ws.now (wires_from 0 wires) out.old (record { count = 0; to = to })).out) }
 {
-    let mut w: u32 = 0;
     let mut c = Listed { count: 0, to };
-    while w < wires {
+    for w in 0..wires {
         c = circle(ws, s, out, (w % 65536) as u16, c);
-        w += 1;
     }
     c
 }
 
 // The same, with those looked at that are not passed over by these marks.
+// Stays `while`: how far it is to the next wire is read from the marks.
 fn marked_circles(ws: &[u32], s: &[u8], out: &mut [u8], bs: &[u32], wires: u32, to: usize) -> Listed
     ensures { (result ≡ (circles s.now ws.now (looked 0 bs.now wires 0) out.old (record { count = 0; to = to })).is) × (out.new ≡ (circles s.now ws.now (looked 0 bs.now wires 0) out.old (record { count = 0; to = to })).out) }
 {
@@ -212,17 +193,12 @@ fn renamed_links(
     wires: u32,
     kept: u32,
     to: usize,
-) -> Stepped
+) -> Option<Pen>
     ensures { (result ≡ (renamed_links s.now ws.old out.old links wires kept to).is) × (ws.new ≡ (renamed_links s.now ws.old out.old links wires kept to).ws) × (out.new ≡ (renamed_links s.now ws.old out.old links wires kept to).out) }
 {
-    let t = visit_links(ws, s, out, kept, resolve_walk::on(to, 2));
-    match t {
-        Stepped::At(pen) => {
-            let place = end_links(ws, s, out, links, wires, kept, to, pen.to);
-            Stepped::At(Pen { from: 0, to: place })
-        }
-        Stepped::Deep => Stepped::Deep,
-    }
+    let pen = visit_links(ws, s, out, kept, resolve_walk::on(to, 2))?;
+    let place = end_links(ws, s, out, links, wires, kept, to, pen.to);
+    Some(Pen { from: 0, to: place })
 }
 
 // A net in which trees are left hanging: its head and free count, its free trees visited, its links.
@@ -235,17 +211,14 @@ fn renamed(
     wires: u32,
     kept: u32,
     to: usize,
-) -> Stepped
+) -> Option<Pen>
     ensures { (result ≡ (renamed s.now ws.old out.old at links wires kept to).is) × (ws.new ≡ (renamed s.now ws.old out.old at links wires kept to).ws) × (out.new ≡ (renamed s.now ws.old out.old at links wires kept to).out) }
 {
     let from = ends::on(s, at, 8);
     let n = fields::byte(s, ends::on(s, at, 7)) as u32;
     store::copy(out, to, s, at, from);
-    let t = resolve_walk::trees(ws, s, out, from, n, resolve_walk::on(to, 8), 64);
-    match t {
-        Stepped::At(pen) => renamed_links(ws, s, out, links, wires, kept, pen.to),
-        Stepped::Deep => Stepped::Deep,
-    }
+    let pen = resolve_walk::trees(ws, s, out, from, n, resolve_walk::on(to, 8), 64)?;
+    renamed_links(ws, s, out, links, wires, kept, pen.to)
 }
 
 // ---- a net
@@ -291,22 +264,20 @@ fn prepare(ws: &mut [u32], s: &[u8], at: usize) -> Ready
 }
 
 // With the place of the file to go on from.
-fn onward(t: Stepped, from: usize) -> Stepped
+fn onward(t: Option<Pen>, from: usize) -> Option<Pen>
     ensures { result ≡ onward t from }
 {
-    match t {
-        Stepped::At(pen) => Stepped::At(Pen { from, to: pen.to }),
-        Stepped::Deep => Stepped::Deep,
-    }
+    let pen = t?;
+    Some(Pen { from, to: pen.to })
 }
 
 // The net as it stands, or renamed.
-fn resolved(ws: &mut [u32], s: &[u8], out: &mut [u8], at: usize, to: usize, r: Ready) -> Stepped
+fn resolved(ws: &mut [u32], s: &[u8], out: &mut [u8], at: usize, to: usize, r: Ready) -> Option<Pen>
     ensures { (result ≡ (resolved s.now r ws.old out.old at to).is) × (ws.new ≡ (resolved s.now r ws.old out.old at to).ws) × (out.new ≡ (resolved s.now r ws.old out.old at to).out) }
 {
     if r.left == 0 {
         let place = plain(ws, s, out, at, r.links, r.kept, to);
-        return Stepped::At(Pen {
+        return Some(Pen {
             from: r.end,
             to: place,
         });
@@ -325,7 +296,7 @@ fn free(ws: &mut [u32], s: &[u8], links: usize)
 }
 
 // The net at a place of the file, at a place of the output, of tables in which nothing is said, as it is then too.
-pub fn net(ws: &mut [u32], s: &[u8], out: &mut [u8], at: usize, to: usize) -> Stepped
+pub fn net(ws: &mut [u32], s: &[u8], out: &mut [u8], at: usize, to: usize) -> Option<Pen>
     ensures { (result ≡ (net s.now ws.old out.old at to).is) × (ws.new ≡ (net s.now ws.old out.old at to).ws) × (out.new ≡ (net s.now ws.old out.old at to).out) }
 {
     let r = prepare(ws, s, at);

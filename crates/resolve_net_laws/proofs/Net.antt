@@ -1,4 +1,4 @@
--- A tree net that lies at a place of a file is written as the definition resolves it: `net-resolves`. Deep is said exactly where the
+-- A tree net that lies at a place of a file is written as the definition resolves it: `net-resolves`. None is said exactly where the
 use Rattle.std.specs.Prelude.{ℕ, zero, suc, ◌+◌, ◌-◌, ◌<◌, ◌≤◌, ◌≡◌, refl, Bool, true, ltb}
 use Rattle.std.proofs.Math.Path.{sym, ap}
 use Rattle.std.proofs.Common.{subst, ◌∙◌}
@@ -24,9 +24,8 @@ use Rattle.wire_tables_laws.specs.Table.{Empty, table_empty}
 use Rattle.wire_tables_laws.specs.Linked.{LinkFor}
 use Rattle.resolve_pass.specs.declared.Passed.{Passed}
 use Rattle.resolve_pass.specs.Pass as code
-use Rattle.resolve_walk.specs.declared.Stepped.{Stepped}
-use Rattle.resolve_walk.specs.declared.Stepped.TheVariants.{At, Deep}
-use Rattle.resolve_walk.specs.Penned.{Penned, Inked}
+use Rattle.std.specs.Prelude.{Some, None}
+use Rattle.resolve_walk.specs.Penned.{Stepped, Penned, Inked}
 use Rattle.resolve_walk.specs.Walk.{on, on_step}
 use Rattle.resolve_net.specs.declared.Ready.{Ready}
 use Rattle.resolve_net.specs.Plain.{plain}

@@ -1,4 +1,4 @@
--- A net renamed: its free trees visited, then its links; Deep exactly where a tree is too deep. `renamed-is`.
+-- A net renamed: its free trees visited, then its links; None exactly where a tree is too deep. `renamed-is`.
 use Rattle.std.specs.Prelude.{ℕ, zero, suc, ◌+◌, ◌-◌, ◌<◌, ◌≤◌, ◌≡◌, refl, Bool, List, [], ◌∷◌, ◌++◌, length}
 use Rattle.std.proofs.Common.{sym, subst, ◌∙◌, append_assoc}
 use Rattle.std.proofs.Math.Path.{ap}
@@ -14,9 +14,8 @@ use Rattle.conversions.specs.Resolve.{Hung, sorted, with_trees}
 use Rattle.fields.specs.Fields.{byte}
 use Rattle.ends.specs.Ends.{within}
 use Rattle.store.specs.Store.{store, between}
-use Rattle.resolve_walk.specs.declared.Stepped.{Stepped}
-use Rattle.resolve_walk.specs.declared.Stepped.TheVariants.{At, Deep}
-use Rattle.resolve_walk.specs.Penned.{Penned, Inked}
+use Rattle.std.specs.Prelude.{Some, None}
+use Rattle.resolve_walk.specs.Penned.{Stepped, Penned, Inked}
 use Rattle.resolve_walk.specs.Walk.{on, on_step}
 use Rattle.resolve_walk.specs.Walk as code
 use Rattle.resolve_net.specs.Renamed.{visit_links, end_links, renamed_links, renamed}

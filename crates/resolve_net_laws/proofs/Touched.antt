@@ -18,8 +18,7 @@ use Rattle.wire_blocks.specs.Blocks.{row_mark, block_mark, marked}
 use Rattle.wire_blocks.specs.Laws.{length_marked, row_set, block_set}
 use Rattle.wire_blocks.specs.Laws
 use Rattle.resolve_pass.specs.Pass.{wire_at, tree_end, over, hung_tree, hung_links, mark_wire, mark_tree, marked_links, free_tree, free_links}
-use Rattle.resolve_walk.specs.declared.Stepped.{Stepped}
-use Rattle.resolve_walk.specs.Penned.{Penned}
+use Rattle.resolve_walk.specs.Penned.{Stepped, Penned}
 use Rattle.resolve_net.specs.Renamed.{marks_of, left_below}
 use Rattle.resolve_net.specs.Net.{pass_links, prepare, resolved, net}
 use Rattle.resolve_net.specs.Net

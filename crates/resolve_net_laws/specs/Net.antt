@@ -1,4 +1,4 @@
--- A tree net that lies at a place of a file is written as the definition resolves it: `net-resolves`. Deep is said exactly where the
+-- A tree net that lies at a place of a file is written as the definition resolves it: `net-resolves`. None is said exactly where the
 -- definition refuses by 17.
 use Rattle.std.specs.Prelude.{ℕ, zero, suc, ◌+◌, ◌-◌, ◌<◌, ◌≤◌, ◌≡◌, refl, Bool, true, ltb}
 use Rattle.std.proofs.Math.Path.{sym, ap}
@@ -25,9 +25,8 @@ use Rattle.wire_tables_laws.specs.Table.{Empty, table_empty}
 use Rattle.wire_tables_laws.specs.Linked.{LinkFor}
 use Rattle.resolve_pass.specs.declared.Passed.{Passed}
 use Rattle.resolve_pass.specs.Pass as code
-use Rattle.resolve_walk.specs.declared.Stepped.{Stepped}
-use Rattle.resolve_walk.specs.declared.Stepped.TheVariants.{At, Deep}
-use Rattle.resolve_walk.specs.Penned.{Penned, Inked}
+use Rattle.std.specs.Prelude.{Some, None}
+use Rattle.resolve_walk.specs.Penned.{Stepped, Penned, Inked}
 use Rattle.resolve_walk.specs.Walk.{on, on_step}
 use Rattle.resolve_net.specs.declared.Ready.{Ready}
 use Rattle.resolve_net.specs.Plain.{plain}
@@ -127,12 +126,12 @@ module _ (s : List ℕ) (m : TreeNet) (at p : ℕ) (k : NetLies s m at p) (small
 
   module _ (out : List ℕ) (to : ℕ) (low : to ≤ most) where
     pub record NetIs (y : TreeNet) (x : Penned Stepped) : Type 0 where
-      pub is : x.is ≡ At (record { from = end; to = on to (length (write_tree_net y)) })
+      pub is : x.is ≡ Some (record { from = end; to = on to (length (write_tree_net y)) })
       pub long : length x.ws ≡ length ws
       pub stored : to + length (write_tree_net y) ≤ length out → length out ≤ most → x.out ≡ store to (write_tree_net y) out
 
     abbrev pub NetOut : Result TreeNet → Penned Stepped → Type 0
-    NetOut (refuse r) x = x.is ≡ Deep
+    NetOut (refuse r) x = x.is ≡ None
     NetOut (ok y) x = NetIs y x
 
     abbrev pub ls : List (Tree × Tree)
@@ -150,9 +149,9 @@ module _ (s : List ℕ) (m : TreeNet) (at p : ℕ) (k : NetLies s m at p) (small
     abbrev pub visited : Penned Stepped
     visited = renamed s done.ws out at p n (length ls) to
 
-    pub net_zero : done.is.left ≡ 0 → net s ws out at to ≡ record { is = At (record { from = end; to = copied.is }); ws = freed s done.ws p; out = copied.out }
+    pub net_zero : done.is.left ≡ 0 → net s ws out at to ≡ record { is = Some (record { from = end; to = copied.is }); ws = freed s done.ws p; out = copied.out }
     unfolding net resolved
-    net_zero z = rw (prepare_is, kept_is, ← eq_yes {A = Penned Stepped} done.is.left 0 (record { is = At (record { from = end; to = copied.is }); ws = done.ws; out = copied.out }) _ z refl)
+    net_zero z = rw (prepare_is, kept_is, ← eq_yes {A = Penned Stepped} done.is.left 0 (record { is = Some (record { from = end; to = copied.is }); ws = done.ws; out = copied.out }) _ z refl)
 
     pub net_more : (done.is.left ≡ 0 → ⊥) → net s ws out at to ≡ record { is = onward visited.is end; ws = freed s visited.ws p; out = visited.out }
     unfolding net resolved
@@ -165,12 +164,12 @@ module _ (s : List ℕ) (m : TreeNet) (at p : ℕ) (k : NetLies s m at p) (small
         let c = kept_is in
         let e : length h.trees ≡ 0 = sym came.passing.left ∙ z in
         let q = plain_is s m at p k out to low done.ws ls came.from (omega arith) in
-        rw (net_zero z, eq-eqb (length h.trees) 0 e) (record { is = ap (λ j. At (record { from = end; to = j })) q.is; long = freed_long s done.ws p ∙ long; stored = q.stored })
+        rw (net_zero z, eq-eqb (length h.trees) 0 e) (record { is = ap (λ j. Some (record { from = end; to = j })) q.is; long = freed_long s done.ws p ∙ long; stored = q.stored })
 
-    pub onward_deep : (t : Stepped) → t ≡ Deep → onward t end ≡ Deep
+    pub onward_deep : (t : Stepped) → t ≡ None → onward t end ≡ None
     unfolding onward on_step
     onward_deep t e = rw e
 
-    pub onward_on : (t : Stepped) (j : ℕ) → t ≡ At (record { from = 0; to = j }) → onward t end ≡ At (record { from = end; to = j })
+    pub onward_on : (t : Stepped) (j : ℕ) → t ≡ Some (record { from = 0; to = j }) → onward t end ≡ Some (record { from = end; to = j })
     unfolding onward on_step
     onward_on t j e = rw e

@@ -15,9 +15,8 @@ use Rattle.resolve_pass.specs.declared.Passed.{Passed}
 use Rattle.resolve_pass.specs.Pass.{wire_at, tree_end, link_wires, wire_links, add_kept, meet, pass_link, pass}
 use Rattle.resolve_walk.specs.declared.Led.{Led}
 use Rattle.resolve_walk.specs.declared.Pen.{Pen}
-use Rattle.resolve_walk.specs.declared.Stepped.{Stepped}
-use Rattle.resolve_walk.specs.declared.Stepped.TheVariants.{At, Deep}
-use Rattle.resolve_walk.specs.Penned.{Penned}
+use Rattle.std.specs.Prelude.{Some, None}
+use Rattle.resolve_walk.specs.Penned.{Stepped, Penned}
 use Rattle.resolve_walk.specs.Walk.{on_step, trees, led_wire, lead, wired, noded, tree}
 use Rattle.resolve_net.specs.Renamed.{visit_link, visit_links, renamed_links, renamed}
 
@@ -26,8 +25,8 @@ use Rattle.resolve_net.specs.Renamed.{visit_link, visit_links, renamed_links, re
 module _ (Q : List ℕ → Type 0) where
   step_keeps : (t : Stepped) (go : Pen → Penned Stepped) (stop : Penned Stepped) → ((pen : Pen) → Q (go pen).ws) → Q stop.ws → Q (on_step t go stop).ws
   unfolding on_step
-  step_keeps (At pen) go stop h g = h pen
-  step_keeps Deep go stop h g = g
+  step_keeps (Some pen) go stop h g = h pen
+  step_keeps None go stop h g = g
 
   pub trees_keep : (one : List ℕ → List ℕ → ℕ → ℕ → Penned Stepped) → ((ws out : List ℕ) (at to : ℕ) → Q ws → Q (one ws out at to).ws)
       → (k : ℕ) (ws out : List ℕ) (at to : ℕ) → Q ws → Q (trees one k ws out at to).ws

@@ -1,4 +1,4 @@
--- A net renamed: its free trees visited, then its links; Deep exactly where a tree is too deep. `renamed-is`.
+-- A net renamed: its free trees visited, then its links; None exactly where a tree is too deep. `renamed-is`.
 use Rattle.std.specs.Prelude.{ℕ, zero, suc, ◌+◌, ◌-◌, ◌<◌, ◌≤◌, ◌≡◌, refl, Bool, List, [], ◌∷◌, ◌++◌, length}
 use Rattle.std.proofs.Common.{sym, subst, ◌∙◌, append_assoc}
 use Rattle.std.proofs.Math.Path.{ap}
@@ -14,9 +14,8 @@ use Rattle.conversions.specs.Resolve.{Hung, sorted, with_trees}
 use Rattle.fields.specs.Fields.{byte}
 use Rattle.ends.specs.Ends.{within}
 use Rattle.store.specs.Store.{store, between}
-use Rattle.resolve_walk.specs.declared.Stepped.{Stepped}
-use Rattle.resolve_walk.specs.declared.Stepped.TheVariants.{At, Deep}
-use Rattle.resolve_walk.specs.Penned.{Penned, Inked}
+use Rattle.std.specs.Prelude.{Some, None}
+use Rattle.resolve_walk.specs.Penned.{Stepped, Penned, Inked}
 use Rattle.resolve_walk.specs.Walk.{on, on_step}
 use Rattle.resolve_walk.specs.Walk as code
 use Rattle.resolve_net.specs.Renamed.{visit_links, end_links, renamed_links, renamed}
@@ -44,26 +43,26 @@ module _ (s : List ℕ) (n : ℕ) (few : n ≤ 65536) (ws out : List ℕ) (to : 
   abbrev pub visited : Penned Stepped
   visited = visit_links s (length ls) ws out 0 (on to 2)
 
-  pub links_deep : visited.is ≡ Deep → (renamed_links s ws out at n (length ls) to).is ≡ Deep
+  pub links_deep : visited.is ≡ None → (renamed_links s ws out at n (length ls) to).is ≡ None
   unfolding renamed_links on_step
   links_deep e = rw e
 
-  pub links_on : (p : ℕ) → visited.is ≡ At (record { from = 0; to = p })
+  pub links_on : (p : ℕ) → visited.is ≡ Some (record { from = 0; to = p })
       → renamed_links s ws out at n (length ls) to
-      ≡ record { is = At (record { from = 0; to = (end_links s visited.ws visited.out at n (length ls) to p).is }); ws = visited.ws; out = (end_links s visited.ws visited.out at n (length ls) to p).out }
+      ≡ record { is = Some (record { from = 0; to = (end_links s visited.ws visited.out at n (length ls) to p).is }); ws = visited.ws; out = (end_links s visited.ws visited.out at n (length ls) to p).out }
   unfolding renamed_links on_step
   links_on p e = rw e
 
-  -- what comes of the links: Deep, or their bytes
+  -- what comes of the links: None, or their bytes
   abbrev pub LinksAre : Option (List (Tree × Tree) × Hung) → Penned Stepped → Type 0
-  LinksAre none x = x.is ≡ Deep
+  LinksAre none x = x.is ≡ None
   LinksAre (some q) x = Wrote s n ws out 0 to (link_bytes s n few q) q.1 x
 
   -- on no wire that is not looked at for the links at `at` hangs a tree that is left
-  abbrev pub None : Type 0
-  None = (v : ℕ) → v < n → (Seen s visited.ws at n v → ⊥) → hung visited.ws v ≡ 0
+  abbrev pub NoneUnseen : Type 0
+  NoneUnseen = (v : ℕ) → v < n → (Seen s visited.ws at n v → ⊥) → hung visited.ws v ≡ 0
 
-  pub links_out : (b : Bool) (v : List (Tree × Tree) × Hung) → Keys v.1.trees → Low n v.1.trees → length ls + length (sorted v.1.trees) ≤ 65535 → None
+  pub links_out : (b : Bool) (v : List (Tree × Tree) × Hung) → Keys v.1.trees → Low n v.1.trees → length ls + length (sorted v.1.trees) ≤ 65535 → NoneUnseen
       → LinksOut s n few ws out (on to 2) (length ls) (cut b v) visited → LinksAre (cut b v) (renamed_links s ws out at n (length ls) to)
   unfolding cut
   links_out true v keys below fewer nothing g = links_deep g
@@ -74,14 +73,14 @@ module _ (s : List ℕ) (n : ℕ) (few : n ≤ 65536) (ws out : List ℕ) (to : 
       let put = links_ended s n few ws out to low v visited w keys below (omega arith) at nothing in
       let e : Put out to (link_bytes s n few v) (end_links s visited.ws visited.out at n (length ls) to p) = rw c at put in
       rw (links_on p w.is) (record {
-        is = ap (λ j. At (record { from = 0; to = j })) e.is;
+        is = ap (λ j. Some (record { from = 0; to = j })) e.is;
         meant = w.meant;
         frame = w.frame;
         stored = e.stored;
       })
 
   pub links_are : (h : Hung) (b : Bool) (v : List (Tree × Tree) × Hung) → KeptFrom s n few ws 0 ls → Meant s n ws h → walk_links 64 ls h ≡ cut b v → Keys v.1.trees → Low n v.1.trees
-      → length ls + length (sorted v.1.trees) ≤ 65535 → None → LinksAre (cut b v) (renamed_links s ws out at n (length ls) to)
+      → length ls + length (sorted v.1.trees) ≤ 65535 → NoneUnseen → LinksAre (cut b v) (renamed_links s ws out at n (length ls) to)
   links_are h b v k m e keys below fewer nothing =
       links_out b v keys below fewer nothing (rw e at (links_visit s n few ls h ws out 0 (on to 2) k m (omega arith) (on_most to low 2)))
 
@@ -96,7 +95,7 @@ module _ (s : List ℕ) (m : TreeNet) (at p : ℕ) (k : NetLies s m at p) (ws ou
   frees = code.trees (code.tree s 64) (length m.free) ws (store to (front m) out) (at + 8) (on to 8)
 
   pub renamed_as : renamed s ws out at p n (length ls) to
-      ≡ on_step frees.is (λ pen. renamed_links s frees.ws frees.out p n (length ls) pen.to) (record { is = Deep; ws = frees.ws; out = frees.out })
+      ≡ on_step frees.is (λ pen. renamed_links s frees.ws frees.out p n (length ls) pen.to) (record { is = None; ws = frees.ws; out = frees.out })
   unfolding renamed
   renamed_as =
       let e = k.eight in
@@ -109,11 +108,11 @@ module _ (s : List ℕ) (m : TreeNet) (at p : ℕ) (k : NetLies s m at p) (ws ou
 
   -- the net's first bytes
   abbrev pub begun : Penned Stepped
-  begun = record { is = At (record { from = at + 8; to = on to 8 }); ws = ws; out = store to (front m) out }
+  begun = record { is = Some (record { from = at + 8; to = on to 8 }); ws = ws; out = store to (front m) out }
 
   pub begun_wrote : Wrote s n ws out (at + 8) to (front m) h begun
   begun_wrote = record {
-    is = ap (λ j. At (record { from = at + 8; to = on to j })) (sym k.eight);
+    is = ap (λ j. Some (record { from = at + 8; to = on to j })) (sym k.eight);
     meant = meant;
     frame = frame_none ws;
     stored = λ room small. refl;
@@ -128,22 +127,22 @@ module _ (s : List ℕ) (m : TreeNet) (at p : ℕ) (k : NetLies s m at p) (ws ou
       let e : length (listed (trees m.free)) ≡ length m.free = ap length (listed_trees m.free) in
       rw e at (trees_walk s n (code.tree s 64) (walk 64) (tree_walks s n k.few 64) (trees m.free) h ws (store to (front m) out) (at + 8) (on to 8) k.frees meant (on_most to low 8))
 
-  -- Deep, or the bytes of the net
+  -- None, or the bytes of the net
   pub record Whole (y : TreeNet) (x : Penned Stepped) : Type 0 where
-    pub is : x.is ≡ At (record { from = 0; to = on to (length (write_tree_net y)) })
+    pub is : x.is ≡ Some (record { from = 0; to = on to (length (write_tree_net y)) })
     pub frame : Frame ws x.ws
     pub stored : to + length (write_tree_net y) ≤ length out → length out ≤ most → x.out ≡ store to (write_tree_net y) out
 
   abbrev pub RenamedIs : Result TreeNet → Penned Stepped → Type 0
-  RenamedIs (refuse r) x = x.is ≡ Deep
+  RenamedIs (refuse r) x = x.is ≡ None
   RenamedIs (ok y) x = Whole y x
 
-  pub step_deep : (go : ℕ → Penned Stepped) → frees.is ≡ Deep → (on_step frees.is (λ pen. go pen.to) (record { is = Deep; ws = frees.ws; out = frees.out })).is ≡ Deep
+  pub step_deep : (go : ℕ → Penned Stepped) → frees.is ≡ None → (on_step frees.is (λ pen. go pen.to) (record { is = None; ws = frees.ws; out = frees.out })).is ≡ None
   unfolding on_step
   step_deep go e = rw e
 
-  pub step_on : (go : ℕ → Penned Stepped) (e q : ℕ) → frees.is ≡ At (record { from = e; to = q })
-      → on_step frees.is (λ pen. go pen.to) (record { is = Deep; ws = frees.ws; out = frees.out }) ≡ go q
+  pub step_on : (go : ℕ → Penned Stepped) (e q : ℕ) → frees.is ≡ Some (record { from = e; to = q })
+      → on_step frees.is (λ pen. go pen.to) (record { is = None; ws = frees.ws; out = frees.out }) ≡ go q
   unfolding on_step
   step_on go e q h = rw h
 
@@ -164,7 +163,7 @@ module _ (s : List ℕ) (m : TreeNet) (at p : ℕ) (k : NetLies s m at p) (ws ou
       let bytes : (front m ++ write_trees u.0) ++ link_bytes s n k.few v ≡ write_tree_net (with_trees m (listed u.0) (all_links s n k.few v)) =
       rw (trees_written u.0) (append_assoc (front m) (concat_map write_tree (listed u.0)) (link_bytes s n k.few v) ∙ net_bytes m (listed u.0) (all_links s n k.few v) c) in
       record {
-        is = w₂.is ∙ ap (λ bs. At (record { from = 0; to = on to (length bs) })) bytes;
+        is = w₂.is ∙ ap (λ bs. Some (record { from = 0; to = on to (length bs) })) bytes;
         frame = w₂.frame;
         stored = λ room small. w₂.stored (rw bytes room) small ∙ ap (λ bs. store to bs out) bytes;
       }

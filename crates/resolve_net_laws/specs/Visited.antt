@@ -1,4 +1,4 @@
--- Kept links visited: what is written is what `walkLinks` gives, and Deep is said where it gives nothing (`links-visit`).
+-- Kept links visited: what is written is what `walkLinks` gives, and None is said where it gives nothing (`links-visit`).
 use Prim.Native.Nat.{ℕ, zero, suc, ◌+◌, ◌%◌, ◌<◌, ◌≤◌}
 use Rattle.std.specs.Prelude.{◌≡◌, get_or}
 use Rattle.std.proofs.Math.Path.{refl, sym, ap}
@@ -14,9 +14,8 @@ use Rattle.conversions.specs.Resolve.{Hung}
 use Rattle.store.specs.Store.{store, store_none}
 use Rattle.wire_tables.specs.Tables.{kept_left, kept_right}
 use Rattle.resolve_pass.specs.Pass.{next}
-use Rattle.resolve_walk.specs.declared.Stepped.{Stepped}
-use Rattle.resolve_walk.specs.declared.Stepped.TheVariants.{At, Deep}
-use Rattle.resolve_walk.specs.Penned.{Penned}
+use Rattle.std.specs.Prelude.{Some, None}
+use Rattle.resolve_walk.specs.Penned.{Stepped, Penned}
 use Rattle.resolve_walk.specs.Walk.{on, on_step}
 use Rattle.resolve_walk.specs.Walk as code
 use Rattle.resolve_net.specs.Renamed.{visit_link, visit_links}
@@ -36,18 +35,18 @@ module _ (s : List ℕ) (n : ℕ) (few : n ≤ 65536) where
   -- ---- one link
 
   abbrev LinkOut : List ℕ → List ℕ → ℕ → ℕ → Option ((Tree × Tree) × Hung) → Penned Stepped → Type 0
-  LinkOut ws out e to none x = x.is ≡ Deep
+  LinkOut ws out e to none x = x.is ≡ None
   LinkOut ws out e to (some r) x = Wrote s n ws out e to (write_link r.0) r.1 x
 
   module _ (ws out : List ℕ) (i to : ℕ) where
     abbrev first : Penned Stepped
     first = code.tree s 64 ws out (kept_left ws i) to
 
-    link_deep : first.is ≡ Deep → (visit_link s ws out i to).is ≡ Deep
+    link_deep : first.is ≡ None → (visit_link s ws out i to).is ≡ None
     unfolding visit_link on_step
     link_deep e = rw e
 
-    link_on : (e p : ℕ) → first.is ≡ At (record { from = e; to = p }) → visit_link s ws out i to ≡ code.tree s 64 first.ws first.out (kept_right ws i) p
+    link_on : (e p : ℕ) → first.is ≡ Some (record { from = e; to = p }) → visit_link s ws out i to ≡ code.tree s 64 first.ws first.out (kept_right ws i) p
     unfolding visit_link on_step
     link_on e p h = rw h
 
@@ -81,20 +80,20 @@ module _ (s : List ℕ) (n : ℕ) (few : n ≤ 65536) where
   -- ---- links
 
   abbrev pub LinksOut : List ℕ → List ℕ → ℕ → ℕ → Option (List (Tree × Tree) × Hung) → Penned Stepped → Type 0
-  LinksOut ws out to c none x = x.is ≡ Deep
+  LinksOut ws out to c none x = x.is ≡ None
   LinksOut ws out to c (some r) x = Wrote s n ws out 0 to (concat_map write_link r.0) r.1 x × (length r.0 ≡ c)
 
   module _ (ws out : List ℕ) (i to k : ℕ) where
-    links_deep : (visit_link s ws out i to).is ≡ Deep → (visit_links s (suc k) ws out i to).is ≡ Deep
+    links_deep : (visit_link s ws out i to).is ≡ None → (visit_links s (suc k) ws out i to).is ≡ None
     unfolding visit_links on_step
     links_deep e = rw e
 
-    links_on : (e p : ℕ) → i < 65535 → (visit_link s ws out i to).is ≡ At (record { from = e; to = p })
+    links_on : (e p : ℕ) → i < 65535 → (visit_link s ws out i to).is ≡ Some (record { from = e; to = p })
         → visit_links s (suc k) ws out i to ≡ visit_links s k (visit_link s ws out i to).ws (visit_link s ws out i to).out (suc i) p
     unfolding visit_links on_step next
     links_on e p l h = let j : (i + 1) % 4294967296 ≡ suc i = omega arith in rw (h, j)
 
-  links_end : (ws out : List ℕ) (i to : ℕ) → visit_links s 0 ws out i to ≡ record { is = At (record { from = 0; to = to }); ws = ws; out = out }
+  links_end : (ws out : List ℕ) (i to : ℕ) → visit_links s 0 ws out i to ≡ record { is = Some (record { from = 0; to = to }); ws = ws; out = out }
   unfolding visit_links
   links_end ws out i to = refl
 
@@ -127,7 +126,7 @@ module _ (s : List ℕ) (n : ℕ) (few : n ≤ 65536) where
   unfolding KeptFrom walk_links
   links_visit [] h ws out i to k m l low = rw (links_end ws out i to) (
     record {
-      is = λ j. At (record { from = 0; to = sym (on_none to low) j });
+      is = λ j. Some (record { from = 0; to = sym (on_none to low) j });
       meant = m;
       frame = frame_none ws;
       stored = λ room small. store_none to out;

@@ -16,9 +16,8 @@ use Rattle.fields.specs.Fields.{byte}
 use Rattle.ends.specs.Ends.{within}
 use Rattle.put.specs.Laws.{put_in_yes}
 use Rattle.store.specs.Store.{store, between}
-use Rattle.resolve_walk.specs.declared.Stepped.{Stepped}
-use Rattle.resolve_walk.specs.declared.Stepped.TheVariants.{At, Deep}
-use Rattle.resolve_walk.specs.Penned.{Penned, Inked}
+use Rattle.std.specs.Prelude.{Some, None}
+use Rattle.resolve_walk.specs.Penned.{Stepped, Penned, Inked}
 use Rattle.resolve_walk.specs.Walk.{on, span, on_step}
 use Rattle.resolve_walk.specs.Walk as code
 use Rattle.resolve_net.specs.Plain.{copy_links, plain}

@@ -1,7 +1,6 @@
 -- The nets of a tree file, one after another, written with their links resolved, on words and bytes. Level Words.
 use Rattle.std.specs.Prelude.{ℕ, List}
-use Rattle.resolve_walk.specs.declared.Stepped.{Stepped}
-use Rattle.resolve_walk.specs.Penned.{Penned}
+use Rattle.resolve_walk.specs.Penned.{Stepped, Penned}
 use Rattle.resolve_walk.specs.Walk.{trees}
 use Rattle.resolve_net.specs.Net.{net}
 

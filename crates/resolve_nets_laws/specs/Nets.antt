@@ -1,5 +1,5 @@
 -- Nets that are spelt one behind the other are written as the definition resolves them, net by net in file order until one refuses:
--- `nets-are`. Deep is said exactly where the definition refuses, by 17.
+-- `nets-are`. None is said exactly where the definition refuses, by 17.
 use Rattle.std.specs.Prelude.{ℕ, zero, suc, ◌+◌, ◌-◌, ◌<◌, ◌≤◌, ◌≡◌, refl, drop}
 use Rattle.std.proofs.Math.Path.{sym}
 use Rattle.std.proofs.Common.{ap, subst, ◌∙◌}
@@ -18,9 +18,8 @@ use Rattle.conversions.specs.Convert.{◌>>=◌}
 use Rattle.conversions.specs.Calls.{map_nets}
 use Rattle.conversions.specs.Resolve.{resolve_tree}
 use Rattle.store.specs.Store.{store, store_none}
-use Rattle.resolve_walk.specs.declared.Stepped.{Stepped}
-use Rattle.resolve_walk.specs.declared.Stepped.TheVariants.{At, Deep}
-use Rattle.resolve_walk.specs.Penned.{Penned}
+use Rattle.std.specs.Prelude.{Some, None}
+use Rattle.resolve_walk.specs.Penned.{Stepped, Penned}
 use Rattle.resolve_walk.specs.Walk.{on, on_step, trees}
 use Rattle.resolve_net.specs.Net.{net}
 use Rattle.resolve_nets.specs.Nets.{nets}
@@ -36,22 +35,22 @@ use Rattle.resolve_net_laws.proofs.Spelt.{net_is}
 
 -- the bytes of these nets stand from `to` on where there is room, and the file is gone on from e
 pub record Nets (ws out : List ℕ) (e to : ℕ) (ys : List TreeNet) (x : Penned Stepped) : Type 0 where
-  pub is : x.is ≡ At (record { from = e; to = on to (length (concat_map write_tree_net ys)) })
+  pub is : x.is ≡ Some (record { from = e; to = on to (length (concat_map write_tree_net ys)) })
   pub long : length x.ws ≡ length ws
   pub stored : to + length (concat_map write_tree_net ys) ≤ length out → length out ≤ most → x.out ≡ store to (concat_map write_tree_net ys) out
 
 abbrev pub NetsOut : List ℕ → List ℕ → ℕ → ℕ → Result (List TreeNet) → Penned Stepped → Type 0
-NetsOut ws out e to (refuse r) x = x.is ≡ Deep
+NetsOut ws out e to (refuse r) x = x.is ≡ None
 NetsOut ws out e to (ok ys) x = Nets ws out e to ys x
 
 -- one net
 pub record One (ws out : List ℕ) (e to : ℕ) (y : TreeNet) (x : Penned Stepped) : Type 0 where
-  pub is : x.is ≡ At (record { from = e; to = on to (length (write_tree_net y)) })
+  pub is : x.is ≡ Some (record { from = e; to = on to (length (write_tree_net y)) })
   pub long : length x.ws ≡ length ws
   pub stored : to + length (write_tree_net y) ≤ length out → length out ≤ most → x.out ≡ store to (write_tree_net y) out
 
 abbrev OneOut : List ℕ → List ℕ → ℕ → ℕ → Result TreeNet → Penned Stepped → Type 0
-OneOut ws out e to (refuse r) x = x.is ≡ Deep
+OneOut ws out e to (refuse r) x = x.is ≡ None
 OneOut ws out e to (ok y) x = One ws out e to y x
 
 nets_then : (ws out : List ℕ) (d e to : ℕ) (y : TreeNet) (ys : List TreeNet) (x z : Penned Stepped) → to ≤ most → One ws out d to y x
@@ -61,7 +60,7 @@ nets_then ws out d e to y ys x z low a b =
     let zs = concat_map write_tree_net ys in
     let l = length-append xs zs in
     record {
-      is = b.is ∙ ap (λ j. At (record { from = e; to = j })) (on_on to low (length xs) (length zs) ∙ ap (on to) (sym l));
+      is = b.is ∙ ap (λ j. Some (record { from = e; to = j })) (on_on to low (length xs) (length zs) ∙ ap (on to) (sym l));
       long = b.long ∙ a.long;
       stored = λ room small.
           let i : to + (length xs + length zs) ≤ length out = omega arith in
@@ -73,15 +72,15 @@ nets_then ws out d e to y ys x z low a b =
     }
 
 module _ (s : List ℕ) (ws out : List ℕ) (at to k : ℕ) where
-  first_deep : (net s ws out at to).is ≡ Deep → (trees (net s) (suc k) ws out at to).is ≡ Deep
+  first_deep : (net s ws out at to).is ≡ None → (trees (net s) (suc k) ws out at to).is ≡ None
   unfolding trees on_step
   first_deep e = rw e
 
-  first_on : (e p : ℕ) → (net s ws out at to).is ≡ At (record { from = e; to = p }) → trees (net s) (suc k) ws out at to ≡ trees (net s) k (net s ws out at to).ws (net s ws out at to).out e p
+  first_on : (e p : ℕ) → (net s ws out at to).is ≡ Some (record { from = e; to = p }) → trees (net s) (suc k) ws out at to ≡ trees (net s) k (net s ws out at to).ws (net s ws out at to).out e p
   unfolding trees on_step
   first_on e p h = rw h
 
-nets_end : (s ws out : List ℕ) (at to : ℕ) → trees (net s) 0 ws out at to ≡ record { is = At (record { from = at; to = to }); ws = ws; out = out }
+nets_end : (s ws out : List ℕ) (at to : ℕ) → trees (net s) 0 ws out at to ≡ record { is = Some (record { from = at; to = to }); ws = ws; out = out }
 unfolding trees
 nets_end s ws out at to = refl
 
@@ -95,7 +94,7 @@ module _ (s : List ℕ) (paths names : ℕ) (hp : paths ≤ 65536) (hn : names �
           → OneOut ws out (at + length (write_tree_net m)) to o (net s ws out at to)
       go (refuse n) g = g
       go (ok y) g = record {
-        is = g.is ∙ ap (λ e. At (record { from = e; to = on to (length (write_tree_net y)) })) (net_end_lem s paths names hp hn m f at r h small ws room bytes empty);
+        is = g.is ∙ ap (λ e. Some (record { from = e; to = on to (length (write_tree_net y)) })) (net_end_lem s paths names hp hn m f at r h small ws room bytes empty);
         long = g.long;
         stored = g.stored;
       }
@@ -125,7 +124,7 @@ module _ (s : List ℕ) (paths names : ℕ) (hp : paths ≤ 65536) (hn : names �
   unfolding map_nets
   nets_resolve [] at r f h ws room empty out to low =
       let i : at ≡ at + 0 = omega arith in
-      rw (nets_end s ws out at to) (record { is = λ j. At (record { from = i j; to = sym (on_none to low) j }); long = refl; stored = λ fits low'. store_none to out })
+      rw (nets_end s ws out at to) (record { is = λ j. Some (record { from = i j; to = sym (on_none to low) j }); long = refl; stored = λ fits low'. store_none to out })
   nets_resolve (m ∷ ms) at r f h ws room empty out to low =
       let x = write_tree_net m in
       let y = concat_map write_tree_net ms in

@@ -58,12 +58,10 @@ pub fn wire_links(ws: &mut [u32], s: &[u8], from: usize, n: u32) -> usize
     ensures { (result ≡ (wire_links ws.old s.now from n).is) × (ws.new ≡ (wire_links ws.old s.now from n).ws) }
 {
     let mut at = from;
-    let mut k = n;
-    while 0 < k {
+    for _ in 0..n {
         let b = tree_end(s, at);
         link_wires(ws, s, at, b);
         at = tree_end(s, b);
-        k -= 1;
     }
     at
 }
@@ -98,14 +96,12 @@ pub fn hung_links(ws: &[u32], s: &[u8], from: usize, n: u32) -> u32
     ensures { result ≡ hung_links ws.now s.now from n 0 }
 {
     let mut at = from;
-    let mut k = n;
     let mut t: u32 = 0;
-    while 0 < k {
+    for _ in 0..n {
         let b = tree_end(s, at);
         let u = hung_tree(ws, s, at, t);
         t = hung_tree(ws, s, b, u);
         at = tree_end(s, b);
-        k -= 1;
     }
     t
 }
@@ -134,13 +130,11 @@ pub fn mark_links(ws: &[u32], s: &[u8], from: usize, n: u32, bs: &mut [u32])
     ensures { bs.new ≡ marked_links ws.now s.now from n bs.old }
 {
     let mut at = from;
-    let mut k = n;
-    while 0 < k {
+    for _ in 0..n {
         let b = tree_end(s, at);
         mark_tree(ws, s, at, bs);
         mark_tree(ws, s, b, bs);
         at = tree_end(s, b);
-        k -= 1;
     }
 }
 
@@ -159,13 +153,11 @@ pub fn free_links(ws: &mut [u32], s: &[u8], from: usize, n: u32)
     ensures { ws.new ≡ free_links ws.old s.now from n }
 {
     let mut at = from;
-    let mut k = n;
-    while 0 < k {
+    for _ in 0..n {
         let b = tree_end(s, at);
         free_tree(ws, s, at);
         free_tree(ws, s, b);
         at = tree_end(s, b);
-        k -= 1;
     }
 }
 
@@ -232,13 +224,11 @@ pub fn pass(ws: &mut [u32], s: &[u8], from: usize, n: u32) -> Passed
     ensures { (result ≡ (pass ws.old s.now from n (record { kept = 0; left = 0 })).is) × (ws.new ≡ (pass ws.old s.now from n (record { kept = 0; left = 0 })).ws) }
 {
     let mut at = from;
-    let mut k = n;
     let mut p = Passed { kept: 0, left: 0 };
-    while 0 < k {
+    for _ in 0..n {
         let b = tree_end(s, at);
         p = pass_link(ws, s, at, b, p);
         at = tree_end(s, b);
-        k -= 1;
     }
     p
 }

@@ -1,6 +1,6 @@
 -- What the call answers and leaves is what the definitions say: on an accepted file 17 where a net would be deeper than 64, else 15
 -- or `write` of the file with the links of each net resolved.
-use Rattle.std.specs.Prelude.{ℕ, suc, ◌+◌, ◌-◌, ◌<◌, ◌≤◌, min, ◌≡◌, Bool, true, false, List, [], ◌∷◌, ◌++◌, get_or, drop}
+use Rattle.std.specs.Prelude.{Ok, Err, ℕ, suc, ◌+◌, ◌-◌, ◌<◌, ◌≤◌, min, ◌≡◌, Bool, true, false, List, [], ◌∷◌, ◌++◌, get_or, drop}
 use Rattle.std.proofs.Math.Path.{refl, sym, ap}
 use Rattle.std.proofs.Common.{◌∙◌, append-nil, drop_at}
 use native.Mathlib.Omega.{arith}
@@ -30,20 +30,18 @@ use Rattle.put.specs.Fields.{size_part}
 use Rattle.put.specs.Laws.{put_in_yes}
 use Rattle.clear.specs.Zeroed.{zeroed}
 use Rattle.text_writers.specs.Wrote.{far, Wrote, sets_append}
-use Rattle.net_check.specs.Verdict.{verdict}
-use Rattle.net_check.specs.declared.Checked.{Checked}
-use Rattle.net_check.specs.declared.Checked.TheVariants.{Accepted}
-use Rattle.net_check.specs.declared.Checked.TheVariants.{Refused as Checked-as-Refused}
+use Rattle.refusals.specs.declared.Refusal.{Refusal}
+use Rattle.refusals.specs.declared.Refusal.TheVariants.{TooLittleLent, TooDeep}
+use Rattle.net_check.specs.Verdict.{Checked, verdict, was_read}
 use Rattle.convert_laws.specs.Tables.{count_later, count_inside}
 use Rattle.convert_laws.specs.Frame.{with_nets, framed, convert_done, convert_stops, nets_stand, frame_written}
-use Rattle.convert_frame.specs.declared.Converted.{Converted}
-use Rattle.convert_frame.specs.declared.Converted.TheVariants.{Refused}
+use Rattle.convert_frame.specs.Called.{Converted}
 use Rattle.convert_frame.specs.Head.{head_bytes, head_length, head_framed}
 use Rattle.convert_frame.specs.Called.{scratch_words, long, Called, Given, called_short, called_unread, called_read, given_full, given_written, given_refused}
 use Rattle.tree_laws.specs.Bounds.{tree_bounds}
 use Rattle.store.specs.Store.{store}
 use Rattle.resolve_walk.specs.Walk.{on}
-use Rattle.resolve_walk.specs.declared.Stepped.TheVariants.{Deep}
+use Rattle.std.specs.Prelude.{None}
 use Rattle.spelt_trees.specs.Spelt.{Spelt}
 use Rattle.resolve_nets.specs.Nets.{nets}
 use Rattle.low_wires.specs.Zeros.{zeroed_length, zeroed_get}
@@ -213,11 +211,11 @@ module _ (s : List ℕ) (b : Bytes s) (x : File TreeNet) (e : read tree s ≡ ok
     abbrev Done : Type 0
     Done = Given (said (length out)) ws out (resolved s w out).is ws' (resolved s w out).out
 
-    given_17 : map_nets resolve_tree x.nets ≡ refuse 17 → (whole s w₀ (0 ∷ []) 0).is ≡ Deep → Done
+    given_17 : map_nets resolve_tree x.nets ≡ refuse 17 → (whole s w₀ (0 ∷ []) 0).is ≡ None → Done
     given_17 em h =
         let r = resolved_deep s w w₀ out (whole s w₀ (0 ∷ []) 0).ws (whole s w₀ (0 ∷ []) 0).is refl refl refl h in
         let a = ap (λ (r : Result (File TreeNet)). r >>= λ y. fitted (length out) (write tree y)) (convert_stops resolve_tree x 17 em) in
-        given_as (sym a) (ap (λ t. t.is) r) refl (ap (λ t. t.out) r) (given_refused 17 ws ws' out z)
+        given_as (sym a) (ap (λ t. t.is) r) refl (ap (λ t. t.out) r) (given_refused TooDeep ws ws' out z)
 
     module _ (ys : List TreeNet) (em : map_nets resolve_tree x.nets ≡ ok ys) (many : length ys ≡ n₀) where
       -- the whole result
@@ -296,12 +294,6 @@ module _ (s : List ℕ) (b : Bytes s) (x : File TreeNet) (e : read tree s ≡ ok
 
 -- ---- the ways out of the call
 
--- an accepted file was read
-was_read : (r : Result (File TreeNet)) → Accepted ≡ verdict r → (x : File TreeNet) × (r ≡ ok x)
-unfolding verdict
-was_read (ok x) e = (x, refl)
-was_read (refuse n) e = let z : ◌≡◌ {A = ℕ} 0 1 = cc in absurd (omega arith)
-
 -- two answers that are the same have the same value
 same_file : {x y : File TreeNet} → ◌≡◌ {A = Result (File TreeNet)} (ok x) (ok y) → x ≡ y
 same_file {x} {y} e = ap (λ o. value o) e
@@ -311,16 +303,16 @@ same_file {x} {y} e = ap (λ o. value o) e
     value (refuse n) = x
 
 module _ (s ws out : List ℕ) where
-  pub call_short : length ws < scratch_words → Called (resolve_tree_call (long ws) (length out) s) ws out (Refused 1) ws out
+  pub call_short : length ws < scratch_words → Called (resolve_tree_call (long ws) (length out) s) ws out (Err TooLittleLent) ws out
   unfolding resolve_tree_call
   call_short h = called_short tree tree resolve_tree s ws out h
 
-  pub call_unread : (c : Checked) (r : ℕ) → scratch_words ≤ length ws → c ≡ verdict (read tree s) → c ≡ Checked-as-Refused r
-      → Called (resolve_tree_call (long ws) (length out) s) ws out (Refused r) ws out
+  pub call_unread : (c : Checked) (r : Refusal) → scratch_words ≤ length ws → c ≡ verdict (read tree s) → c ≡ Err r
+      → Called (resolve_tree_call (long ws) (length out) s) ws out (Err r) ws out
   unfolding resolve_tree_call
   call_unread c r h ec er = called_unread tree tree resolve_tree s ws out c r h ec er
 
-  pub call_read : (b : (i : ℕ) → get_or s i 0 < 256) → length out < far → (c : Checked) (r : Converted) (ws' out' : List ℕ) → scratch_words ≤ length ws → c ≡ verdict (read tree s) → c ≡ Accepted
+  pub call_read : (b : (i : ℕ) → get_or s i 0 < 256) → length out < far → (c : Checked) (r : Converted) (ws' out' : List ℕ) → scratch_words ≤ length ws → c ≡ verdict (read tree s) → c ≡ Ok tt
       → r ≡ (resolved s (take scratch_words ws) out).is → ws' ≡ zeroed scratch_words ws → out' ≡ (resolved s (take scratch_words ws) out).out
       → Called (resolve_tree_call (long ws) (length out) s) ws out r ws' out'
   unfolding resolve_tree_call

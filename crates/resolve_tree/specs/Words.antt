@@ -1,5 +1,5 @@
 -- The call past its checks, by what stands in the file, on words and bytes. Level Words.
-use Rattle.std.specs.Prelude.{ℕ, zero, suc, ◌<◌, ◌≤◌, ◌≡◌, List, [], ◌∷◌, ◌++◌, length, take, drop}
+use Rattle.std.specs.Prelude.{Ok, Err, ℕ, zero, suc, ◌<◌, ◌≤◌, ◌≡◌, List, [], ◌∷◌, ◌++◌, length, take, drop}
 use Rattle.std.proofs.Math.Path.{refl}
 use Rattle.std.proofs.Common.{ap, ◌∙◌, arith, length-take-le}
 use Rattle.std.proofs.lemmas.List.Edits.{sets}
@@ -9,13 +9,12 @@ use Rattle.stored.specs.Stored.{net_count_at}
 use Rattle.ends.specs.Ends.{within, on}
 use Rattle.clear.specs.Zeroed.{zeroed}
 use Rattle.text_writers.specs.Wrote.{Wrote}
-use Rattle.convert_frame.specs.declared.Converted.{Converted}
-use Rattle.convert_frame.specs.declared.Converted.TheVariants.{Written, Refused}
+use Rattle.refusals.specs.declared.Refusal.TheVariants.{OutputTooShort, TooDeep}
+use Rattle.convert_frame.specs.Called.{Converted}
 use Rattle.convert_frame.specs.Head.{head_bytes}
 use Rattle.resolve_walk.specs.declared.Pen.{Pen}
-use Rattle.resolve_walk.specs.declared.Stepped.{Stepped}
-use Rattle.resolve_walk.specs.declared.Stepped.TheVariants.{At, Deep}
-use Rattle.resolve_walk.specs.Penned.{Penned}
+use Rattle.std.specs.Prelude.{Some, None}
+use Rattle.resolve_walk.specs.Penned.{Stepped, Penned}
 use Rattle.resolve_walk.specs.Penned
 use Rattle.resolve_walk.specs.Walk.{on_step}
 use Rattle.resolve_nets.specs.Nets.{nets}
@@ -39,13 +38,13 @@ module _ (s : List ℕ) where
   unfoldable pub delivered : List ℕ → List ℕ → ℕ → Penned Converted
   delivered ws out n =
       let r = whole ws out n in
-      if_lt (length out) n (record { is = Refused 15; ws = ws; out = out }) (record { is = Written n; ws = r.ws; out = r.out })
+      if_lt (length out) n (record { is = Err OutputTooShort; ws = ws; out = out }) (record { is = Ok n; ws = r.ws; out = r.out })
 
   -- 17, then 15, then the result; its length is that of one written where there is no room. At first nothing is said in the tables
   unfoldable pub resolved : List ℕ → List ℕ → Penned Converted
   resolved ws out =
       let m = whole (zeroed 131072 ws) (0 ∷ []) 0 in
-      on_step m.is (λ pen. delivered m.ws out pen.to) (record { is = Refused 17; ws = m.ws; out = out })
+      on_step m.is (λ pen. delivered m.ws out pen.to) (record { is = Err TooDeep; ws = m.ws; out = out })
 
   -- ---- the ways out
 
@@ -56,20 +55,20 @@ module _ (s : List ℕ) where
       let e : nets s k ws o a a ≡ whole ws out n = rw (h.out, ek, ea, eq) in
       Penned.whole (nets s k ws o a a) er ew ex ∙ e
 
-  pub deliver_full : (ws out : List ℕ) (n : ℕ) → length out < n → record { is = Refused 15; ws = ws; out = out } ≡ delivered ws out n
+  pub deliver_full : (ws out : List ℕ) (n : ℕ) → length out < n → record { is = Err OutputTooShort; ws = ws; out = out } ≡ delivered ws out n
   unfolding delivered
   deliver_full ws out n h = lt_yes _ _ _ _ h refl
 
-  pub deliver_done : (ws out w o : List ℕ) (n : ℕ) → n ≤ length out → w ≡ (whole ws out n).ws → o ≡ (whole ws out n).out → record { is = Written n; ws = w; out = o } ≡ delivered ws out n
+  pub deliver_done : (ws out w o : List ℕ) (n : ℕ) → n ≤ length out → w ≡ (whole ws out n).ws → o ≡ (whole ws out n).out → record { is = Ok n; ws = w; out = o } ≡ delivered ws out n
   unfolding delivered
-  deliver_done ws out w o n h ew eo = lt_no _ _ _ _ h (λ i. record { is = Written n; ws = ew i; out = eo i })
+  deliver_done ws out w o n h ew eo = lt_no _ _ _ _ h (λ i. record { is = Ok n; ws = ew i; out = eo i })
 
   module _ (ws u out w : List ℕ) (t : Stepped) (eu : u ≡ zeroed 131072 ws) (et : t ≡ (whole u (0 ∷ []) 0).is) (ew : w ≡ (whole u (0 ∷ []) 0).ws) where
-    pub resolved_deep : t ≡ Deep → record { is = Refused 17; ws = w; out = out } ≡ resolved ws out
+    pub resolved_deep : t ≡ None → record { is = Err TooDeep; ws = w; out = out } ≡ resolved ws out
     unfolding resolved on_step
     resolved_deep e = rw (← eu, ← et, ← ew, e)
 
-    pub resolved_at : (pen : Pen) (v o : List ℕ) (r : Converted) → t ≡ At pen → r ≡ (delivered w out pen.to).is → v ≡ (delivered w out pen.to).ws → o ≡ (delivered w out pen.to).out
+    pub resolved_at : (pen : Pen) (v o : List ℕ) (r : Converted) → t ≡ Some pen → r ≡ (delivered w out pen.to).is → v ≡ (delivered w out pen.to).ws → o ≡ (delivered w out pen.to).out
         → record { is = r; ws = v; out = o } ≡ resolved ws out
     unfolding resolved on_step
     resolved_at pen v o r e er ev eo = Penned.whole (delivered w out pen.to) er ev eo ∙ rw (← eu, ← et, ← ew, e)

@@ -7,12 +7,11 @@ ghost use Rattle.clear.specs.Zeroed.{zeroed};
 ghost use Rattle.convert_frame.specs.Called.{long, Called};
 ghost use Rattle.resolve_tree.specs.Words.{whole, delivered, resolved};
 
-use convert_frame::Converted;
-use net_check::Checked;
-use resolve_walk::Stepped;
+use refusals::Refusal;
+use resolve_walk::Pen;
 
 // What a result of this length begins with, and its nets.
-fn whole(s: &[u8], ws: &mut [u32], out: &mut [u8], length: usize) -> Stepped
+fn whole(s: &[u8], ws: &mut [u32], out: &mut [u8], length: usize) -> Option<Pen>
     ensures { (result ≡ (whole s.now ws.old out.old length).is) × (ws.new ≡ (whole s.now ws.old out.old length).ws) × (out.new ≡ (whole s.now ws.old out.old length).out) }
 {
     let q = readers::net_count_at(s);
@@ -23,31 +22,30 @@ fn whole(s: &[u8], ws: &mut [u32], out: &mut [u8], length: usize) -> Stepped
 }
 
 // 15, or the result of this length.
-fn deliver(s: &[u8], ws: &mut [u32], out: &mut [u8], length: usize) -> Converted
+fn deliver(s: &[u8], ws: &mut [u32], out: &mut [u8], length: usize) -> Result<usize, Refusal>
     ensures { (result ≡ (delivered s.now ws.old out.old length).is) × (ws.new ≡ (delivered s.now ws.old out.old length).ws) × (out.new ≡ (delivered s.now ws.old out.old length).out) }
 {
     if out.len() < length {
-        return Converted::Refused(15);
+        return Err(Refusal::OutputTooShort);
     }
     whole(s, ws, out, length);
-    Converted::Written(length)
+    Ok(length)
 }
 
 // An accepted file: its length is found out first, by writing it where there is no room. 17, then 15, then the result.
-fn resolved(s: &[u8], ws: &mut [u32], out: &mut [u8]) -> Converted
+fn resolved(s: &[u8], ws: &mut [u32], out: &mut [u8]) -> Result<usize, Refusal>
     ensures { (result ≡ (resolved s.now ws.old out.old).is) × (ws.new ≡ (resolved s.now ws.old out.old).ws) × (out.new ≡ (resolved s.now ws.old out.old).out) }
 {
     clear::clear_words(ws, 131072);
     let mut none = [0u8; 1];
-    let t = whole(s, ws, &mut none, 0);
-    match t {
-        Stepped::At(pen) => deliver(s, ws, out, pen.to),
-        Stepped::Deep => Converted::Refused(17),
+    match whole(s, ws, &mut none, 0) {
+        Some(pen) => deliver(s, ws, out, pen.to),
+        None => Err(Refusal::TooDeep),
     }
 }
 
 // The same in the first n words, which are left as zeros.
-fn accepted(s: &[u8], ws: &mut [u32], out: &mut [u8], n: usize) -> Converted
+fn accepted(s: &[u8], ws: &mut [u32], out: &mut [u8], n: usize) -> Result<usize, Refusal>
     requires { n ≤ length ws.old }
     ensures { (result ≡ (resolved s.now (take n ws.old) out.old).is) × (ws.new ≡ zeroed n ws.old) × (out.new ≡ (resolved s.now (take n ws.old) out.old).out) }
 {
@@ -56,15 +54,12 @@ fn accepted(s: &[u8], ws: &mut [u32], out: &mut [u8], n: usize) -> Converted
     r
 }
 
-pub fn resolve_tree(file: &[u8], scratch: &mut [u32], out: &mut [u8]) -> Converted
+pub fn resolve_tree(file: &[u8], scratch: &mut [u32], out: &mut [u8]) -> Result<usize, Refusal>
     ensures { Called (resolve_tree_call (long scratch.old) (length out.old) file.now) scratch.old out.old result scratch.new out.new }
 {
     if scratch.len() < convert_frame::SCRATCH {
-        return Converted::Refused(1);
+        return Err(Refusal::TooLittleLent);
     }
-    let checked = net_check::check_tree(file);
-    match checked {
-        Checked::Accepted => accepted(file, scratch, out, convert_frame::SCRATCH),
-        Checked::Refused(r) => Converted::Refused(r as u32),
-    }
+    net_check::check_tree(file)?;
+    accepted(file, scratch, out, convert_frame::SCRATCH)
 }

@@ -1,6 +1,11 @@
 -- What a call that writes leaves: its answer, the words, the bytes as they then are.
-use Rattle.std.specs.Prelude.{◌≡◌, List, ℕ}
+use Rattle.std.specs.Prelude.{◌≡◌, List, ℕ, Option}
 use Rattle.std.proofs.Common.{ap}
+use Rattle.resolve_walk.specs.declared.Pen.{Pen}
+
+-- where to go on from and write at next, or None where a tree was too deep
+abbrev pub Stepped : Type 0
+Stepped = Option Pen
 
 pub record Penned (A : Type 0) : Type 0 where
   pub is : A

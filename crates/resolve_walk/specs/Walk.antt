@@ -13,9 +13,8 @@ use Rattle.resolve_pass.specs.Pass.{wire_at}
 use Rattle.resolve_walk.specs.declared.Pen.{Pen}
 use Rattle.resolve_walk.specs.declared.Led.{Led}
 use Rattle.resolve_walk.specs.declared.Head.{Head}
-use Rattle.resolve_walk.specs.declared.Stepped.{Stepped}
-use Rattle.resolve_walk.specs.declared.Stepped.TheVariants.{At, Deep}
-use Rattle.resolve_walk.specs.Penned.{Penned, Inked}
+use Rattle.std.specs.Prelude.{Some, None}
+use Rattle.resolve_walk.specs.Penned.{Stepped, Penned, Inked}
 
 -- ---- places
 
@@ -30,15 +29,15 @@ span from to = to - from
 -- ---- a step taken
 
 unfoldable pub on_step : {A : Type 0} → Stepped → (Pen → A) → A → A
-on_step (At pen) go stop = go pen
-on_step Deep go stop = stop
+on_step (Some pen) go stop = go pen
+on_step None go stop = stop
 
 -- k trees, one after another, each written by `one`
 unfoldable pub trees : (List ℕ → List ℕ → ℕ → ℕ → Penned Stepped) → ℕ → List ℕ → List ℕ → ℕ → ℕ → Penned Stepped
-trees one zero ws out at to = record { is = At (record { from = at; to = to }); ws = ws; out = out }
+trees one zero ws out at to = record { is = Some (record { from = at; to = to }); ws = ws; out = out }
 trees one (suc k) ws out at to =
     let r = one ws out at to in
-    on_step r.is (λ pen. trees one k r.ws r.out pen.from pen.to) (record { is = Deep; ws = r.ws; out = r.out })
+    on_step r.is (λ pen. trees one k r.ws r.out pen.from pen.to) (record { is = None; ws = r.ws; out = r.out })
 
 -- ---- one tree
 
@@ -60,7 +59,7 @@ module _ (s : List ℕ) where
   -- the wire that was led to: its tag and its number
   unfoldable pub write_wire : List ℕ → Led → ℕ → Inked Stepped
   write_wire out led to = record {
-    is = At (record { from = within s (led.behind + 2); to = on to 3 });
+    is = Some (record { from = within s (led.behind + 2); to = on to 3 });
     out = store (on to 1) (be 2 led.wire) (store to (be 1 0) out);
   }
 
@@ -73,7 +72,7 @@ module _ (s : List ℕ) where
 
   -- from behind the wire that led away, or from where the tree ended
   unfoldable pub resume : Led → Stepped → Stepped
-  resume led t = if_eq led.behind 0 t (on_step t (λ pen. At (record { from = within s (led.behind + 2); to = pen.to })) Deep)
+  resume led t = if_eq led.behind 0 t (on_step t (λ pen. Some (record { from = within s (led.behind + 2); to = pen.to })) None)
 
   -- a wire that was led to, written
   unfoldable pub wired : Left Led → List ℕ → ℕ → Penned Stepped
@@ -90,7 +89,7 @@ module _ (s : List ℕ) where
   unfoldable pub tree : ℕ → List ℕ → List ℕ → ℕ → ℕ → Penned Stepped
   tree zero ws out at to =
       let l = lead ws at in
-      if_eq l.is.node 0 (wired l out to) (record { is = Deep; ws = l.ws; out = out })
+      if_eq l.is.node 0 (wired l out to) (record { is = None; ws = l.ws; out = out })
   tree (suc d) ws out at to =
       let l = lead ws at in
       if_eq l.is.node 0 (wired l out to) (noded (tree d) l out to)

@@ -7,19 +7,16 @@ use Rattle.std.proofs.Math.Numerals.{sub-one}
 use Rattle.words.specs.Choose.{eq_yes, eq_no, lt_yes, lt_no}
 use Rattle.words.specs.Left.{Left}
 use Rattle.words.specs.Left
-use Rattle.net_file.specs.Write.{be}
 use Rattle.fields.specs.Fields.{byte}
 use Rattle.ends.specs.Ends.{within}
-use Rattle.store.specs.Store.{store}
 use Rattle.wire_tables.specs.Tables.{unlink, smaller, hung, hang}
 use Rattle.resolve_pass.specs.Pass.{wire_at}
 use Rattle.resolve_walk.specs.declared.Pen.{Pen}
 use Rattle.resolve_walk.specs.declared.Led.{Led}
 use Rattle.resolve_walk.specs.declared.Head.{Head}
-use Rattle.resolve_walk.specs.declared.Stepped.{Stepped}
-use Rattle.resolve_walk.specs.declared.Stepped.TheVariants.{At, Deep}
-use Rattle.resolve_walk.specs.Penned.{Penned}
-use Rattle.resolve_walk.specs.Walk.{on, span, on_step, led_wire, lead, write_wire, write_head, resume, trees, wired, noded, tree}
+use Rattle.std.specs.Prelude.{Some, None}
+use Rattle.resolve_walk.specs.Penned.{Stepped, Penned}
+use Rattle.resolve_walk.specs.Walk.{on, on_step, led_wire, lead, write_wire, write_head, resume, trees, wired, noded, tree}
 
 pub on_last : (to k room : ℕ) → room ≡ 18446744073709551615 - to → room < k → 18446744073709551615 ≡ on to k
 unfolding on
@@ -49,12 +46,12 @@ module _ (s : List ℕ) (led : Led) where
   unfolding resume
   resume_own t z = eq_yes _ _ _ _ z refl
 
-  pub resume_on : (t : Stepped) (pen : Pen) (b : ℕ) → (led.behind ≡ 0 → ⊥) → t ≡ At pen → b ≡ within s (led.behind + 2)
-      → At (record { from = b; to = pen.to }) ≡ resume s led t
+  pub resume_on : (t : Stepped) (pen : Pen) (b : ℕ) → (led.behind ≡ 0 → ⊥) → t ≡ Some pen → b ≡ within s (led.behind + 2)
+      → Some (record { from = b; to = pen.to }) ≡ resume s led t
   unfolding resume on_step
   resume_on t pen b n e eb = eq_no _ _ _ _ n (rw (eb, e))
 
-  pub resume_deep : (t : Stepped) → (led.behind ≡ 0 → ⊥) → t ≡ Deep → Deep ≡ resume s led t
+  pub resume_deep : (t : Stepped) → (led.behind ≡ 0 → ⊥) → t ≡ None → None ≡ resume s led t
   unfolding resume on_step
   resume_deep t n e = eq_no _ _ _ _ n (rw e)
 
@@ -76,7 +73,7 @@ module _ (s ws out v : List ℕ) (at to : ℕ) (l : Led) (el : l ≡ (lead s ws 
   tree_wire zero o q z eq eo = rw led_is (eq_yes _ _ _ _ z (wire_whole o q eq eo))
   tree_wire (suc d) o q z eq eo = rw led_is (eq_yes _ _ _ _ z (wire_whole o q eq eo))
 
-  pub tree_deep : (d : ℕ) → (l.node ≡ 0 → ⊥) → d ≡ 0 → record { is = Deep; ws = v; out = out } ≡ tree s d ws out at to
+  pub tree_deep : (d : ℕ) → (l.node ≡ 0 → ⊥) → d ≡ 0 → record { is = None; ws = v; out = out } ≡ tree s d ws out at to
   unfolding tree
   tree_deep zero n z = rw led_is (eq_no _ _ _ _ n refl)
   tree_deep (suc d) n z = absurd (omega arith)
@@ -99,19 +96,19 @@ module _ (s ws out v : List ℕ) (at to : ℕ) (l : Led) (el : l ≡ (lead s ws 
 
 module _ (one : List ℕ → List ℕ → ℕ → ℕ → Penned Stepped) (ws w out o : List ℕ) (at to : ℕ) (t : Stepped) (et : t ≡ (one ws out at to).is)
     (ew : w ≡ (one ws out at to).ws) (eo : o ≡ (one ws out at to).out) where
-  pub trees_more : (k : ℕ) (pen : Pen) (x : Penned Stepped) → trees one k ws out at to ≡ x → 0 < k → t ≡ At pen
+  pub trees_more : (k : ℕ) (pen : Pen) (x : Penned Stepped) → trees one k ws out at to ≡ x → 0 < k → t ≡ Some pen
       → trees one (k - 1) w o pen.from pen.to ≡ x
   unfolding trees on_step
   trees_more zero pen x g h e = absurd (not-suc-le-zero h)
   trees_more (suc k) pen x g h e = rw (sub-one, ew, eo) (rw (← et, e) at g)
 
-  pub trees_deep : (k : ℕ) (x : Penned Stepped) → trees one k ws out at to ≡ x → 0 < k → t ≡ Deep → record { is = Deep; ws = w; out = o } ≡ x
+  pub trees_deep : (k : ℕ) (x : Penned Stepped) → trees one k ws out at to ≡ x → 0 < k → t ≡ None → record { is = None; ws = w; out = o } ≡ x
   unfolding trees on_step
   trees_deep zero x g h e = absurd (not-suc-le-zero h)
   trees_deep (suc k) x g h e = rw (ew, eo) (rw (← et, e) at g)
 
 pub trees_done : (one : List ℕ → List ℕ → ℕ → ℕ → Penned Stepped) (ws out : List ℕ) (at to k : ℕ) (x : Penned Stepped) → trees one k ws out at to ≡ x → k ≤ 0
-    → record { is = At (record { from = at; to = to }); ws = ws; out = out } ≡ x
+    → record { is = Some (record { from = at; to = to }); ws = ws; out = out } ≡ x
 unfolding trees
 trees_done one ws out at to zero x g h = g
 trees_done one ws out at to (suc k) x g h = absurd (not-suc-le-zero h)

@@ -5,18 +5,11 @@
 ghost use Rattle.std.specs.Prelude.{◌≡◌};
 ghost use Rattle.resolve_walk.specs.Walk.{on, span, lead, write_wire, write_head, resume, tree, trees};
 
-// A place of the file to go on from, and the place to write at next.
+// A place of the file to go on from, and the place to write at next. A walk answers None where a tree is too deep.
 #[derive(Clone, Copy)]
 pub struct Pen {
     pub from: usize,
     pub to: usize,
-}
-
-// Written, or a tree was too deep.
-#[derive(Clone, Copy)]
-pub enum Stepped {
-    At(Pen),
-    Deep,
 }
 
 // ---- places
@@ -82,12 +75,12 @@ fn lead(ws: &mut [u32], s: &[u8], at: usize) -> Led
 }
 
 // The wire that was led to.
-fn write_wire(s: &[u8], out: &mut [u8], led: Led, to: usize) -> Stepped
+fn write_wire(s: &[u8], out: &mut [u8], led: Led, to: usize) -> Option<Pen>
     ensures { (result ≡ (write_wire s.now out.old led to).is) × (out.new ≡ (write_wire s.now out.old led to).out) }
 {
     store::store8(out, to, 0);
     store::store16(out, on(to, 1), led.wire);
-    Stepped::At(Pen {
+    Some(Pen {
         from: ends::on(s, led.behind, 2),
         to: on(to, 3),
     })
@@ -117,26 +110,24 @@ fn write_head(s: &[u8], out: &mut [u8], at: usize, to: usize) -> Head
 }
 
 // From behind the wire that led away, or from where the tree ended.
-fn resume(s: &[u8], led: Led, t: Stepped) -> Stepped
+fn resume(s: &[u8], led: Led, t: Option<Pen>) -> Option<Pen>
     ensures { result ≡ resume s.now led t }
 {
     if led.behind == 0 {
         return t;
     }
-    match t {
-        Stepped::At(pen) => Stepped::At(Pen {
-            from: ends::on(s, led.behind, 2),
-            to: pen.to,
-        }),
-        Stepped::Deep => Stepped::Deep,
-    }
+    let pen = t?;
+    Some(Pen {
+        from: ends::on(s, led.behind, 2),
+        to: pen.to,
+    })
 }
 
 // ---- trees in trees
 
 // A tree of at most depth d. With `trees` it calls itself: the depth that is left falls, so the stack holds at most 2 * 64 calls.
 #[cycle(tree_trees)]
-pub fn tree(ws: &mut [u32], s: &[u8], out: &mut [u8], at: usize, to: usize, d: u32) -> Stepped
+pub fn tree(ws: &mut [u32], s: &[u8], out: &mut [u8], at: usize, to: usize, d: u32) -> Option<Pen>
     ensures { (result ≡ (tree s.now d ws.old out.old at to).is) × (ws.new ≡ (tree s.now d ws.old out.old at to).ws) × (out.new ≡ (tree s.now d ws.old out.old at to).out) }
 {
     let led = lead(ws, s, at);
@@ -144,7 +135,7 @@ pub fn tree(ws: &mut [u32], s: &[u8], out: &mut [u8], at: usize, to: usize, d: u
         return write_wire(s, out, led, to);
     }
     if d == 0 {
-        return Stepped::Deep;
+        return None;
     }
     let head = write_head(s, out, led.node - 1, to);
     let t = trees(ws, s, out, head.from, head.count, head.to, d - 1);
@@ -161,26 +152,17 @@ pub fn trees(
     n: u32,
     to: usize,
     d: u32,
-) -> Stepped
+) -> Option<Pen>
     ensures { (result ≡ (trees (tree s.now d) n ws.old out.old from to).is) × (ws.new ≡ (trees (tree s.now d) n ws.old out.old from to).ws) × (out.new ≡ (trees (tree s.now d) n ws.old out.old from to).out) }
 {
     let mut at = from;
     let mut place = to;
-    let mut k = n;
-    while 0 < k {
-        let t = tree(ws, s, out, at, place, d);
-        match t {
-            Stepped::At(pen) => {
-                at = pen.from;
-                place = pen.to;
-            }
-            Stepped::Deep => {
-                return Stepped::Deep;
-            }
-        }
-        k -= 1;
+    for _ in 0..n {
+        let pen = tree(ws, s, out, at, place, d)?;
+        at = pen.from;
+        place = pen.to;
     }
-    Stepped::At(Pen {
+    Some(Pen {
         from: at,
         to: place,
     })

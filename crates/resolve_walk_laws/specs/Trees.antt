@@ -1,4 +1,4 @@
--- The walk over stored trees writes what `walk` gives of the trees that lie there, and says Deep where it gives nothing: `tree-walks`.
+-- The walk over stored trees writes what `walk` gives of the trees that lie there, and says None where it gives nothing: `tree-walks`.
 use Prim.Native.Nat.{ℕ, zero, suc, ◌+◌, ◌-◌, ◌<◌, ◌≤◌}
 use Rattle.std.specs.Prelude.{◌≡◌, refl, List, [], ◌∷◌, ◌++◌, take, drop}
 use Rattle.std.proofs.Math.Path.{sym, ap}
@@ -21,9 +21,8 @@ use Rattle.put.specs.Written.{part}
 use Rattle.store.specs.Store.{store, between, store_none}
 use Rattle.resolve_walk.specs.declared.Led.{Led}
 use Rattle.resolve_walk.specs.declared.Head.{Head}
-use Rattle.resolve_walk.specs.declared.Stepped.{Stepped}
-use Rattle.resolve_walk.specs.declared.Stepped.TheVariants.{At, Deep}
-use Rattle.resolve_walk.specs.Penned.{Penned, Inked}
+use Rattle.std.specs.Prelude.{Some, None}
+use Rattle.resolve_walk.specs.Penned.{Stepped, Penned, Inked}
 use Rattle.resolve_walk.specs.Walk.{on, span, on_step, write_wire, write_head, resume, wired, noded}
 use Rattle.resolve_walk.specs.Walk as code
 use Rattle.resolve_walk.specs.Ways.{resume_own, resume_on, resume_deep}
@@ -49,7 +48,7 @@ node_bytes m ts = rw (append_assoc, append_assoc)
 module _ (s : List ℕ) (n : ℕ) where
   -- the bytes bs stand from `to` on where there is room, the file is gone on from e, and the tables mean h
   pub record Wrote (ws out : List ℕ) (e to : ℕ) (bs : List ℕ) (h : Hung) (x : Penned Stepped) : Type 0 where
-    pub is : x.is ≡ At (record { from = e; to = on to (length bs) })
+    pub is : x.is ≡ Some (record { from = e; to = on to (length bs) })
     pub meant : Meant s n x.ws h
     pub frame : Frame ws x.ws
     pub stored : to + length bs ≤ length out → length out ≤ most → x.out ≡ store to bs out
@@ -61,7 +60,7 @@ module _ (s : List ℕ) (n : ℕ) where
       let l = length-append xs ys in
       let o : on (on to (length xs)) (length ys) ≡ on to (length (xs ++ ys)) = on_on to low (length xs) (length ys) ∙ ap (on to) (sym l) in
       record {
-        is = b.is ∙ ap (λ p. At (record { from = f; to = p })) o;
+        is = b.is ∙ ap (λ p. Some (record { from = f; to = p })) o;
         meant = b.meant;
         frame = frame_then a.frame b.frame;
         stored = λ room small.
@@ -76,11 +75,11 @@ module _ (s : List ℕ) (n : ℕ) where
   -- ---- what comes of a walk
 
   abbrev pub Outcome : List ℕ → List ℕ → ℕ → ℕ → Option (Tree × Hung) → Penned Stepped → Type 0
-  Outcome ws out e to none x = x.is ≡ Deep
+  Outcome ws out e to none x = x.is ≡ None
   Outcome ws out e to (some r) x = Wrote ws out e to (write_tree r.0) r.1 x
 
   abbrev pub Outcomes : List ℕ → List ℕ → ℕ → ℕ → ℕ → Option (Trees × Hung) → Penned Stepped → Type 0
-  Outcomes ws out e to k none x = x.is ≡ Deep
+  Outcomes ws out e to k none x = x.is ≡ None
   Outcomes ws out e to k (some r) x = Wrote ws out e to (write_trees r.0) r.1 x × (length (listed r.0) ≡ k)
 
   abbrev pub Walks : (List ℕ → List ℕ → ℕ → ℕ → Penned Stepped) → (Tree → Hung → Option (Tree × Hung)) → Type 0
@@ -95,18 +94,18 @@ module _ (s : List ℕ) (n : ℕ) where
     empty_walks h ws out at to m low =
         let i : at ≡ at + 0 = omega arith in
         record {
-          is = λ j. At (record { from = i j; to = sym (on_none to low) j });
+          is = λ j. Some (record { from = i j; to = sym (on_none to low) j });
           meant = m;
           frame = frame_none ws;
           stored = λ room small. store_none to out;
         }
 
     module _ (ws out : List ℕ) (at to k : ℕ) where
-      first_deep : (one ws out at to).is ≡ Deep → (code.trees one (suc k) ws out at to).is ≡ Deep
+      first_deep : (one ws out at to).is ≡ None → (code.trees one (suc k) ws out at to).is ≡ None
       unfolding code.trees on_step
       first_deep e = rw e
 
-      first_on : (e p : ℕ) → (one ws out at to).is ≡ At (record { from = e; to = p })
+      first_on : (e p : ℕ) → (one ws out at to).is ≡ Some (record { from = e; to = p })
           → code.trees one (suc k) ws out at to ≡ code.trees one k (one ws out at to).ws (one ws out at to).out e p
       unfolding code.trees on_step
       first_on e p h = rw h
@@ -176,7 +175,7 @@ module _ (s : List ℕ) (n : ℕ) where
     tree_wired_lem zero z = sym (eq_yes _ _ _ _ z refl)
     tree_wired_lem (suc d) z = sym (eq_yes _ _ _ _ z refl)
 
-    tree_deep : (led.is.node ≡ 0 → ⊥) → (code.tree s 0 ws out at to).is ≡ Deep
+    tree_deep : (led.is.node ≡ 0 → ⊥) → (code.tree s 0 ws out at to).is ≡ None
     unfolding code.tree
     tree_deep z = ap (λ (x : Penned Stepped). x.is) (sym (eq_no _ _ _ _ z refl))
 
@@ -191,7 +190,7 @@ module _ (s : List ℕ) (n : ℕ) where
     wire_walks e c h ec ee m f =
         let l = wire_long c in
         record {
-          is = λ i. At (record { from = ee i; to = on to (sym l i) });
+          is = λ i. Some (record { from = ee i; to = on to (sym l i) });
           meant = m;
           frame = f;
           stored = λ room small.
@@ -204,8 +203,8 @@ module _ (s : List ℕ) (n : ℕ) where
     -- a node that was led to, with its children
     module _ (d : ℕ) (law : Walks (code.tree s d) (walk d)) (m : Name) (ts : Trees) (h : Hung) (p e : ℕ) (word : led.is.node ≡ p + 1)
         (head : HeadLies s n m (length (listed ts)) p) (all : LieAll s n ts (child_count_at s p + 1)) (meant : Meant s n led.ws h) (frame : Frame ws led.ws)
-        (back : (q : ℕ) → resume s led.is (At (record { from = child_count_at s p + 1 + length (write_trees ts); to = q })) ≡ At (record { from = e; to = q }))
-        (stop : resume s led.is Deep ≡ Deep) where
+        (back : (q : ℕ) → resume s led.is (Some (record { from = child_count_at s p + 1 + length (write_trees ts); to = q })) ≡ Some (record { from = e; to = q }))
+        (stop : resume s led.is None ≡ None) where
       abbrev k : ℕ
       k = length (listed ts)
 
@@ -214,7 +213,7 @@ module _ (s : List ℕ) (n : ℕ) where
 
       -- the node's own bytes are written
       abbrev begun : Penned Stepped
-      begun = record { is = At (record { from = child_count_at s p + 1; to = on to (length bytes) }); ws = led.ws; out = store to bytes out }
+      begun = record { is = Some (record { from = child_count_at s p + 1; to = on to (length bytes) }); ws = led.ws; out = store to bytes out }
 
       begun_wrote : Wrote ws out (child_count_at s p + 1) to bytes h begun
       begun_wrote = record { is = refl; meant = meant; frame = frame; stored = λ room small. refl }
@@ -273,13 +272,13 @@ module _ (s : List ℕ) (n : ℕ) where
       behind_wire : within s (found.behind + 2) ≡ end
       behind_wire = let b = g.behind in omega (arith, wire_room w at lies, wire_long w)
 
-      led_back : (e q : ℕ) → resume s found (At (record { from = e; to = q })) ≡ At (record { from = end; to = q })
+      led_back : (e q : ℕ) → resume s found (Some (record { from = e; to = q })) ≡ Some (record { from = end; to = q })
       led_back e q =
           let b = g.behind in
-          sym (resume_on s found (At (record { from = e; to = q })) (record { from = e; to = q }) end (λ z. absurd (omega arith)) refl (sym behind_wire))
+          sym (resume_on s found (Some (record { from = e; to = q })) (record { from = e; to = q }) end (λ z. absurd (omega arith)) refl (sym behind_wire))
 
-      led_stop : resume s found Deep ≡ Deep
-      led_stop = let b = g.behind in sym (resume_deep s found Deep (λ z. absurd (omega arith)) refl)
+      led_stop : resume s found None ≡ None
+      led_stop = let b = g.behind in sym (resume_deep s found None (λ z. absurd (omega arith)) refl)
 
     wire_flat : (d w : ℕ) → Lies s n (wire w) at → (c : ℕ) (h : Hung) → Leads s n few ws (wire w) at (code.lead s ws at) (wire c, h)
         → Outcome ws out (at + length (write_tree (wire w))) to (at_node (below d) (wire c) h) (code.tree s d ws out at to)
@@ -314,8 +313,8 @@ module _ (s : List ℕ) (n : ℕ) where
           let b = g.behind in
           let e : child_count_at s at + 1 + length (write_trees ts) ≡ at + length (write_tree (node m ts)) = omega (arith, (node_head m ts at lies).end, node_long m ts) in
           node_walks few ws out at to low d law m ts h at (at + length (write_tree (node m ts))) b.1 (node_head m ts at lies) (node_all m ts at lies) g.meant g.frame
-          (λ q. sym (resume_own s (code.lead s ws at).is (At (record { from = child_count_at s at + 1 + length (write_trees ts); to = q })) b.0) ∙ ap (λ f. At (record { from = f; to = q })) e)
-          (sym (resume_own s (code.lead s ws at).is Deep b.0))
+          (λ q. sym (resume_own s (code.lead s ws at).is (Some (record { from = child_count_at s at + 1 + length (write_trees ts); to = q })) b.0) ∙ ap (λ f. Some (record { from = f; to = q })) e)
+          (sym (resume_own s (code.lead s ws at).is None b.0))
 
   pub tree_walks : n ≤ 65536 → (d : ℕ) → Walks (code.tree s d) (walk d)
   unfolding lead

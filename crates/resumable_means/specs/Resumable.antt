@@ -1,6 +1,6 @@
 -- `reached-is-image`, on the words: where words mean an engine that is reached, and the bytes hold its file, `resumable` answers yes.
 -- So no call after begin or a slice is refused by 16.
-use Rattle.std.specs.Prelude.{ℕ, ◌<◌, ◌≤◌, ◌≡◌, refl, Bool, true, take}
+use Rattle.std.specs.Prelude.{is_ok, ℕ, ◌<◌, ◌≤◌, ◌≡◌, refl, Bool, true, take}
 use Rattle.std.proofs.Common.{sym, ◌∙◌, subst}
 use Rattle.std.proofs.Math.Path.{ap}
 use Rattle.std.proofs.Math.Option.{Option, some}
@@ -26,7 +26,7 @@ use Rattle.reached_laws.specs.Wires.{home_at}
 use Rattle.reached_laws.specs.Image.{Image, LeftBy, left_run, reached_image}
 use Rattle.means.specs.Means.{Means}
 use Rattle.held_names.specs.Named.{Named}
-use Rattle.image.specs.Image.{accepted, file_holds, books_hold, words_hold, held, resumable}
+use Rattle.image.specs.Image.{file_holds, books_hold, words_hold, held, resumable}
 use Rattle.image_means.specs.Yes.{given_yes, most_yes}
 use Rattle.image_means.specs.Tidy.{Tidy}
 use Rattle.image_means.specs.Head.{header_passes, steps_pass}
@@ -38,8 +38,8 @@ use Rattle.image_lists_means.proofs.Pools.{pools_pass}
 
 -- a file that is read is accepted
 file_passes : (s : List ℕ) (f : File FlatNet) → read flat s ≡ ok f → file_holds s ≡ true
-unfolding file_holds accepted verdict
-file_passes s f e = ap (λ (r : Result (File FlatNet)). accepted (verdict r)) e
+unfolding file_holds verdict
+file_passes s f e = ap (λ (r : Result (File FlatNet)). is_ok (verdict r)) e
 
 module _ (s : List ℕ) (f : File FlatNet) (reads : read flat s ≡ ok f) (p : Pools) (ws : List ℕ) (e : Engine) (m : Means (Named s f) ws e)
     (tidy : Tidy s ws e) (image : Image p f e) where

@@ -17,14 +17,12 @@ fn has(s: &[u8], from: usize, n: u32, x: u32) -> bool
         return false;
     }
     let mut at = from;
-    let mut k = n;
-    while 0 < k {
+    for _ in 0..n {
         let p = fields::be16(s, at);
         if x == p as u32 {
             return true;
         }
         at += 2;
-        k -= 1;
     }
     false
 }
@@ -43,13 +41,11 @@ fn lists_have(s: &[u8], from: usize, n: u32, x: u32) -> bool
     ensures { result ≡ lists_have s.now from n x }
 {
     let mut at = from;
-    let mut k = n;
-    while 0 < k {
+    for _ in 0..n {
         if list_has(s, at, x) {
             return true;
         }
         at = ends::list_end(s, at);
-        k -= 1;
     }
     false
 }
@@ -58,10 +54,8 @@ fn lists_after(s: &[u8], from: usize, n: u32) -> usize
     ensures { result ≡ lists_after s.now from n }
 {
     let mut at = from;
-    let mut k = n;
-    while 0 < k {
+    for _ in 0..n {
         at = ends::list_end(s, at);
-        k -= 1;
     }
     at
 }
@@ -127,13 +121,11 @@ pub fn rules_name(s: &[u8], from: usize, n: u32, x: u32) -> bool
     ensures { result ≡ rules_name s.now from n x }
 {
     let mut at = from;
-    let mut k = n;
-    while 0 < k {
+    for _ in 0..n {
         if rule_names(s, at, x) {
             return true;
         }
         at = rule_after(s, at);
-        k -= 1;
     }
     false
 }

@@ -1,7 +1,7 @@
 -- The rules by path, as words of 64 bits: set k of path p stands at 8 p + k, the place of rule r at 2,048 + r.
 -- The sets of a path: 0 the rules that name it in their first list (annihilate, erasers, a), 1 in their second (annihilate, nodes, b),
 -- 2 in either, 3 as what they rewrite (graft, combinators), 4 as a value or a nil, 5 as a nil.
-use Rattle.std.specs.Prelude.{ℕ, zero, suc, ◌+◌, ◌*◌, ◌/◌, ◌%◌, ◌^◌, Bool, false, List, [], ◌∷◌, set, ◌==◌, slice_index, slice_set}
+use Rattle.std.specs.Prelude.{ℕ, zero, suc, ◌+◌, ◌*◌, ◌/◌, ◌%◌, ◌^◌, Bool, false, List, [], ◌∷◌, ◌==◌, slice_index, slice_set}
 use Rattle.net_file.specs.Values.{Rule, graft, annihilate, erase, commute, eta}
 use Rattle.words.specs.Choose.{pick, if_lt}
 use Rattle.fields.specs.Fields.{byte, be16}

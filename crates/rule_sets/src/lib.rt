@@ -60,12 +60,11 @@ fn add(sets: &mut [u64], path: u32, k: u32, r: u32, bit: u64)
 fn add_list(file: &[u8], at: usize, sets: &mut [u64], k: u32, r: u32, bit: u64)
     ensures { sets.new ≡ add_list sets.old k r bit (list_at file.now at) }
 {
-    let mut left = fields::byte(file, at) as u32;
+    let count = fields::byte(file, at);
     let mut p = ends::on(file, at, 1);
-    while 0 < left {
+    for _ in 0..count {
         add(sets, fields::be16(file, p) as u32, k, r, bit);
         p = ends::on(file, p, 2);
-        left -= 1;
     }
 }
 
@@ -120,16 +119,12 @@ fn add_rules(file: &[u8], first: usize, count: u32, sets: &mut [u64])
     ensures { sets.new ≡ add_rules file.now first 0 count sets.old }
 {
     let mut at = first;
-    let mut r: u32 = 0;
     let mut bit: u64 = 1;
-    let mut left = count;
-    while 0 < left {
+    for r in 0..count {
         put(sets, 2048 + r as usize, at as u64);
         add_rule(file, at, sets, r, bit);
         at = readers::rule_end(file, at);
-        r += 1;
         bit = std::num::wrapping_add_u64(bit, bit);
-        left -= 1;
     }
 }
 

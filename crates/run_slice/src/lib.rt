@@ -135,8 +135,7 @@ fn run(ws: &mut [u32], file: &[u8], sets: &[u64], most: u32, fuel: u64) -> Ran
     ensures { (result ≡ (run ws.old file.now sets.now most 0 fuel).is) × (ws.new ≡ (run ws.old file.now sets.now most 0 fuel).ws) }
 {
     let mut steps: u32 = 0;
-    let mut k = fuel;
-    while 0 < k {
+    for _ in 0..fuel {
         let went = go_on(ws, file, sets, most, steps);
         match went {
             Went::Go(s) => {
@@ -145,7 +144,6 @@ fn run(ws: &mut [u32], file: &[u8], sets: &[u64], most: u32, fuel: u64) -> Ran
             Went::Rest => return Ran::Rested(steps),
             Went::Refused(r) => return Ran::Refused { steps, number: r },
         }
-        k -= 1;
     }
     Ran::Rested(steps)
 }

@@ -122,14 +122,7 @@ pub fn count_net(s: &[u8], at: usize) -> Counted
 fn capped(total: u32, more: usize) -> u32
     ensures { result ≡ min 4097 (total + more) }
 {
-    if 4097 <= more {
-        return 4097;
-    }
-    if 4097 <= total {
-        return 4097;
-    }
-    let sum = total + more as u32;
-    if 4097 <= sum { 4097 } else { sum }
+    (total as usize).saturating_add(more).min(4097) as u32
 }
 
 // The nodes of n nets, up to 4,097: whether there are at most 4,096 is told exactly, and no sum wraps.
@@ -137,13 +130,11 @@ pub fn nets_nodes(s: &[u8], from: usize, n: u32) -> u32
     ensures { result ≡ min 4097 (nets_nodes s.now from n) }
 {
     let mut at = from;
-    let mut k = n;
     let mut total: u32 = 0;
-    while 0 < k {
+    for _ in 0..n {
         let c = count_net(s, at);
         total = capped(total, c.nodes);
         at = c.end;
-        k -= 1;
     }
     total
 }

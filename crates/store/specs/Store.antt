@@ -1,12 +1,11 @@
 -- Bytes stored in a slice from a place on: all of them where they fit, else none.
-use Rattle.std.specs.Prelude.{ℕ, ◌+◌, ◌-◌, ◌≤◌, ◌<◌, ◌≡◌, length}
+use Rattle.std.specs.Prelude.{Option, ℕ, ◌+◌, ◌-◌, ◌≤◌, ◌<◌, ◌≡◌, length}
 use Rattle.std.proofs.Math.Path.{refl}
 use Rattle.std.proofs.Common.{sym}
 use mathlib.Core.List.{List, []}
 use native.Mathlib.Omega.{arith}
 use Rattle.std.proofs.Math.Decide.{dec_lt}
 use Rattle.words.specs.Choose.{if_lt, lt_yes, lt_no}
-use Rattle.put.specs.declared.Put.{Put}
 use Rattle.put.specs.Written.{put_in, WrittenIf, part}
 use Rattle.put.specs.Laws.{if_fits_no}
 use Rattle.put.specs.Fields.{put_in_none}
@@ -41,6 +40,6 @@ module _ (s out : List ℕ) (at from to : ℕ) where
     unfolding part
     copy_none h = let z : to - from ≡ 0 = omega arith in let e : [] ≡ between s from to = rw z at between_is in rw (← e) (store_none at out)
 
-    pub copy_is : (w : List ℕ) (r : Put) → from < to → WrittenIf (from + (to - from) ≤ length s) (part s from (to - from)) at out w r
+    pub copy_is : (w : List ℕ) (r : Option ℕ) → from < to → WrittenIf (from + (to - from) ≤ length s) (part s from (to - from)) at out w r
         → w ≡ store at (between s from to) out
     copy_is w r h p = rw (← between_is) (p.yes (omega arith)).out

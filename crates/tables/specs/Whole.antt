@@ -1,13 +1,13 @@
 -- The tables as one part of a file, and the body as the tables and then the nets.
-use Rattle.std.specs.Prelude.{ℕ, zero, suc, ◌+◌, ◌≤◌, ◌≡◌, refl, Bool, List, length, drop, eqb}
-use Rattle.std.proofs.Common.{sym, ap, ◌∙◌, arith}
+use Rattle.std.specs.Prelude.{ℕ, ◌≡◌, refl, List, length, eqb}
+use Rattle.std.proofs.Common.{◌∙◌}
 use Rattle.std.proofs.Math.Path.{fun_ext}
 use Rattle.std.proofs.Math.Option.{Option, none, some}
 use Rattle.net_file.specs.Values.{Name, Rule, File}
 use Rattle.net_file.specs.Read.{Parser, then, ◌>>=◌, give, such, number, below, many, times_from, read_path, read_name, read_rule, limit_of, paths_fit, nodes_fit, read_body}
-use Rattle.fields.specs.Fields.{be16, be32}
-use Rattle.stored.specs.Stored.{table_at, table_end, name_at, name_end, rule_at, rule_end, name_count_at, rule_count_at, net_count_at}
-use Rattle.stored.specs.Laws.{Stands, stands_bind, stands_give, stands_as, stands_2, stands_4, stands_times_from, stands_below, stands_many}
+use Rattle.fields.specs.Fields.{be32}
+use Rattle.stored.specs.Stored.{name_at, name_end, rule_at, rule_end, name_count_at, rule_count_at, net_count_at}
+use Rattle.stored.specs.Laws.{Stands, stands_bind, stands_give, stands_2, stands_4, stands_times_from, stands_below, stands_many}
 use Rattle.stored.specs.Parts.{stands_name, stands_rule}
 use Rattle.stored.specs.Body.{paths_at, names_at, rules_at}
 use Rattle.tables.specs.Tables.{read_path_table, read_name_table, stands_path_table}

@@ -1,4 +1,4 @@
--- How often each wire occurs, counted above a base. Last: a count is the number of occurrences, up to 3 (`tally-seen`).
+-- How often each wire occurs, counted above a base. Last: a count is the number of occurrences, up to 3 (`tally_seen`).
 use Rattle.std.specs.Prelude.{ℕ, zero, suc, ◌+◌, ◌-◌, ◌<◌, ◌≤◌, min, ◌≡◌, refl, Bool, true, false, List, [], ◌∷◌, ◌++◌, length, get_or, set, replicate, eqb}
 use Rattle.std.proofs.Common.{sym, ap, ◌∙◌, arith, eq-eqb, ne_eqb}
 use Rattle.std.proofs.Math.Decide.{ℕ_discrete, dec_lt}

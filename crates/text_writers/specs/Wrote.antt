@@ -1,8 +1,10 @@
 -- What a writer of text does: bytes from a place on, as far as the slice goes, and the place after them.
-use Rattle.std.specs.Prelude.{ℕ, zero, suc, ◌+◌, ◌-◌, ◌/◌, ◌%◌, ◌≤◌, ◌<◌, min, ◌≡◌, refl, Bool, true, false, List, [], ◌∷◌, ◌++◌, length, get_or, drop, set, ltb}
-use Rattle.std.proofs.Common.{sym, ap, ◌∙◌, append_assoc, append-nil, arith, add-one, length-append, drop_of_length-le, drop-cons, lt-ltb, le-ltb}
+use Rattle.std.specs.Prelude.{ℕ, zero, suc, ◌+◌, ◌-◌, ◌/◌, ◌%◌, ◌≤◌, ◌<◌, min, ◌≡◌, refl, Bool, true, false, List, [], ◌∷◌, ◌++◌, length, get_or, take, drop, set, ltb}
+use Rattle.std.proofs.Common.{sym, ap, ◌∙◌, append_assoc, append-nil, arith, add-one, length-append, drop_of_length-le, drop-cons, length-take-le, take-append-drop, take_all, lt-ltb, le-ltb}
 use Rattle.std.proofs.Math.Decide.{dec_lt}
-use Rattle.std.proofs.lemmas.List.Edits.{sets}
+use Rattle.std.proofs.lemmas.List.Edits.{sets, sets-eq}
+use Rattle.std.proofs.lemmas.Slice.{put_mid-paste}
+use borrow.Rule.Slice.PartMut.{put_mid}
 use Rattle.std.proofs.Math.Seq.{length-sets, set_out}
 use Rattle.definitions.specs.Text.{digits, decimal}
 
@@ -31,6 +33,17 @@ sets_far l i xs h = elim (dec_lt i far) [
   | yes k ↦ let e : min far i ≡ i = omega arith in rw e
   | no k ↦ sets_past l (min far i) xs (omega arith) ∙ sym (sets_past l i xs (omega arith))
 ]
+
+-- as many as there is room for
+sets_front : (l : List ℕ) (i n : ℕ) (xs : List ℕ) → i ≤ length l → n ≡ min (length xs) (length l - i) → sets l i xs ≡ sets l i (take n xs)
+sets_front l i n xs h e =
+    let t : length (take n xs) ≡ n = length-take-le n xs (omega arith) in
+    let m : length (sets l i (take n xs)) ≡ length l = length-sets l i (take n xs) in
+    let j : sets l i xs ≡ sets (sets l i (take n xs)) (i + length (take n xs)) (drop n xs) = rw take-append-drop at (sets_append l i (take n xs) (drop n xs)) in
+    elim (dec_lt n (length xs)) [
+      | yes k ↦ j ∙ sets_past (sets l i (take n xs)) (i + length (take n xs)) (drop n xs) (omega arith)
+      | no k ↦ let d : drop n xs ≡ [] = drop_of_length-le xs (omega arith) in j ∙ rw d
+    ]
 
 -- ---- one part after another
 
@@ -83,6 +96,24 @@ module _ {s : List ℕ} {at p i : ℕ} {out w : List ℕ} where
 
   pub word_done : Still (drop i s) s at out w p → length s ≤ i → Wrote s at out w p
   word_done st h = still_none st (drop_of_length-le s h)
+
+-- as many of them copied as there is room for
+module _ {s : List ℕ} {at start n k r : ℕ} {out w m : List ℕ} where
+  pub word_copied : length out ≤ far → start ≡ min at (length out) → n ≡ min (length s) (length out - start) → w ≡ put_mid start k out m → m ≡ take n s → k ≡ n
+      → r ≡ min (at + length s) far → Wrote s at out w r
+  word_copied f es en ew em ek er =
+      let t : length (take n s) ≡ n = length-take-le n s (omega arith) in
+      let j : n ≡ k = omega arith in
+      let l : n ≡ length (take n s) = omega arith in
+      let all : take n (take n s) ≡ take n s = take_all n (take n s) (omega arith) in
+      let there = rw t at (sets-eq (take n s) out start (omega arith)) in
+      let put : w ≡ sets out start (take n s) = ew ∙ put_mid-paste start k out m (take n s) n em j l ∙ rw all (sym there) in
+      let front : sets out start s ≡ sets out start (take n s) = sets_front out start n s (omega arith) en in
+      let same : sets out start s ≡ sets out at s = elim (dec_lt at (length out)) [
+        | yes h ↦ let i : start ≡ at = omega arith in rw i
+        | no h ↦ sets_past out start s (omega arith) ∙ sym (sets_past out at s (omega arith))
+      ] in
+      record { is = omega arith; out = put ∙ sym front ∙ same; fits = f }
 
 -- ---- digits
 

@@ -9,10 +9,7 @@ ghost use Rattle.text_writers.specs.Wrote.{far, Wrote};
 fn past(at: usize) -> usize
     ensures { result ≡ min far (at + 1) }
 {
-    if at < 18446744073709551615 {
-        return at + 1;
-    }
-    at
+    at.saturating_add(1)
 }
 
 // One byte.
@@ -30,14 +27,10 @@ pub fn byte(out: &mut [u8], at: usize, b: u8) -> usize
 pub fn word(out: &mut [u8], at: usize, s: &[u8]) -> usize
     ensures { Wrote s.now at out.old out.new result }
 {
-    let mut p = at;
-    let mut i: usize = 0;
-    while i < s.len() {
-        let b = s[i];
-        p = byte(out, p, b);
-        i += 1;
-    }
-    p
+    let start = at.min(out.len());
+    let n = s.len().min(out.len() - start);
+    out[start..start + n].copy_from_slice(&s[..n]);
+    at.saturating_add(s.len())
 }
 
 // A digit, 0 to 9.

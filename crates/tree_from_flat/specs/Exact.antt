@@ -1,6 +1,6 @@
 -- What the call answers and leaves is what the definitions say: on an accepted file the result is `write` of the file with each net
 -- taken to a tree.
-use Rattle.std.specs.Prelude.{ℕ, suc, ◌+◌, ◌≤◌, ◌<◌, ◌≡◌, get_or}
+use Rattle.std.specs.Prelude.{Ok, Err, ℕ, suc, ◌+◌, ◌≤◌, ◌<◌, ◌≡◌, get_or}
 use Rattle.std.proofs.Math.Path.{refl, sym, ap}
 use Rattle.std.proofs.Common.{◌∙◌}
 use mathlib.Core.List.{List, [], ◌∷◌, ◌++◌, map}
@@ -24,10 +24,9 @@ use Rattle.stored.specs.Body.{nets_at, body_end}
 use Rattle.ends.specs.Ends.{within, on, net_up, pairs_past, nodes_past}
 use Rattle.readers_laws.specs.Reads.{read_inside}
 use Rattle.clear.specs.Zeroed.{zeroed}
-use Rattle.net_check.specs.Verdict.{verdict}
-use Rattle.net_check.specs.declared.Checked.{Checked}
-use Rattle.net_check.specs.declared.Checked.TheVariants.{Accepted}
-use Rattle.net_check.specs.declared.Checked.TheVariants.{Refused as Checked-as-Refused}
+use Rattle.refusals.specs.declared.Refusal.{Refusal}
+use Rattle.refusals.specs.declared.Refusal.TheVariants.{TooLittleLent}
+use Rattle.net_check.specs.Verdict.{Checked, verdict}
 use Rattle.wire_marks.specs.Marks.{marked, canon}
 use Rattle.wire_marks.specs.Canonical.{canon_exact, length_marked, Below, below_marked}
 use Rattle.low_wires.specs.Low.{Low, file_low, map_same, concat_map_lem}
@@ -35,11 +34,11 @@ use Rattle.low_wires.specs.Zeros.{zeroed_length, zeroed_get}
 use Rattle.tree_writers.specs.Trees.{hung, tree_by, tree_by_lem, net_part, net_inside_lem}
 use Rattle.convert_laws.specs.Tables.{count_inside}
 use Rattle.convert_laws.specs.Frame.{with_nets, framed, convert_done, map_nets_lem, nets_stand, frame_written}
-use Rattle.convert_frame.specs.declared.Converted.{Converted}
-use Rattle.convert_frame.specs.declared.Converted.TheVariants.{Refused}
+use Rattle.convert_frame.specs.Called.{Converted}
 use Rattle.convert_frame.specs.Head.{head_bytes, head_length, head_framed}
 use Rattle.convert_frame.specs.Called.{scratch_words, long, Called, Given, called_short, called_unread, called_read}
 use Rattle.convert_frame.specs.Nets.{nets_exact}
+use Rattle.flat_frame.specs.Nets.{parts_of, whole_of, result_of}
 use Rattle.tree_from_flat.specs.Nets.{mark_net, tree_nets, tree_whole, tree_result}
 
 -- ---- two ways to say which wires are one
@@ -105,13 +104,13 @@ module _ (s ws : List ℕ) (b : Bytes s) (l : scratch_words ≤ length ws) (x : 
   inside = read_inside flat flat_net_at flat_net_end s (stands_net s) x e
 
   nets_are : tree_nets s (zeroed 65536 ws) 0 (q + 2) (be16 s q) ≡ trees_of_lem
-  unfolding tree_nets trees_of_lem nets nets_at q
+  unfolding parts_of trees_of_lem nets nets_at q
   nets_are =
       nets_exact s (mark_net s) (λ ws stamp at. net_part ws stamp s at) (flat_net_end s) (flat_net_at s) (λ n. write_tree_net (to_tree n)) Low Good (net_up s)
       (kept s) (same s) (zeroed 65536 ws) 0 (q + 2) (be16 s q) inside each_low (good_zeroed ws l)
 
   whole_is : (n : ℕ) → tree_whole s ws n ≡ head_bytes s q 65 (be16 s q) n ++ trees_of_lem
-  unfolding tree_whole q
+  unfolding whole_of q
   whole_is n =
       let i = count_inside flat flat_net_at flat_net_end s (stands_net s) b x e in
       let w : within s (net_count_at s) ≡ net_count_at s = omega arith in
@@ -119,7 +118,7 @@ module _ (s ws : List ℕ) (b : Bytes s) (l : scratch_words ≤ length ws) (x : 
       rw (w, o) (ap (λ t. head_bytes s (net_count_at s) 65 (be16 s (net_count_at s)) n ++ t) nets_are)
 
   result_is : tree_result s ws ≡ framed s 65 (be 2 (be16 s q) ++ trees_of_lem)
-  unfolding tree_result q
+  unfolding result_of q
   result_is =
       let k : length (tree_whole s ws 0) ≡ length (framed s 65 (be 2 (be16 s q) ++ trees_of_lem)) = ap length (whole_is 0) ∙ head_length s 65 (be16 s q) trees_of_lem 0 in
       whole_is (length (tree_whole s ws 0)) ∙ head_framed s 65 (be16 s q) trees_of_lem (length (tree_whole s ws 0)) k
@@ -144,16 +143,16 @@ module _ (s ws : List ℕ) (b : Bytes s) (l : scratch_words ≤ length ws) (x : 
 -- ---- the ways out of the call
 
 module _ (s ws out : List ℕ) where
-  pub call_short : length ws < scratch_words → Called (to_tree_call (long ws) (length out) s) ws out (Refused 1) ws out
+  pub call_short : length ws < scratch_words → Called (to_tree_call (long ws) (length out) s) ws out (Err TooLittleLent) ws out
   unfolding to_tree_call
   call_short h = called_short flat tree (λ n. ok (to_tree n)) s ws out h
 
-  pub call_unread : (c : Checked) (r : ℕ) → scratch_words ≤ length ws → c ≡ verdict (read flat s) → c ≡ Checked-as-Refused r
-      → Called (to_tree_call (long ws) (length out) s) ws out (Refused r) ws out
+  pub call_unread : (c : Checked) (r : Refusal) → scratch_words ≤ length ws → c ≡ verdict (read flat s) → c ≡ Err r
+      → Called (to_tree_call (long ws) (length out) s) ws out (Err r) ws out
   unfolding to_tree_call
   call_unread c r h ec er = called_unread flat tree (λ n. ok (to_tree n)) s ws out c r h ec er
 
-  pub call_read : (b : (i : ℕ) → get_or s i 0 < 256) (c : Checked) (r : Converted) (ws' out' : List ℕ) → scratch_words ≤ length ws → c ≡ verdict (read flat s) → c ≡ Accepted
+  pub call_read : (b : (i : ℕ) → get_or s i 0 < 256) (c : Checked) (r : Converted) (ws' out' : List ℕ) → scratch_words ≤ length ws → c ≡ verdict (read flat s) → c ≡ Ok tt
       → Given (fitted (length out) (tree_result s ws)) ws out r ws' out' → Called (to_tree_call (long ws) (length out) s) ws out r ws' out'
   unfolding to_tree_call
   call_read b c r ws' out' h ec ea g =

@@ -1,50 +1,23 @@
--- A tree file from a flat one, by what stands in the file and in the scratch; each way out of the code.
-use Prim.Native.Nat.{ℕ, zero, suc, ◌+◌, ◌-◌, ◌≤◌, ◌<◌}
-use Rattle.std.specs.Prelude.{◌≡◌, List, ◌++◌, get_or, set}
-use Rattle.std.proofs.Math.Path.{refl, sym, ap}
-use Rattle.std.proofs.Common.{◌∙◌, arith, length-append}
-use Rattle.std.proofs.Math.ListN.{length}
-use Rattle.net_file_laws.specs.Bytes.{Bytes, length_be}
-use Rattle.conversions.specs.Calls.{fitted}
+-- A tree file from a flat one, by what stands in the file and in the scratch.
+use Prim.Native.Nat.{ℕ, zero, suc, ◌+◌, ◌≤◌, ◌<◌}
+use Rattle.std.specs.Prelude.{◌≡◌, List, set}
+use Rattle.std.proofs.Math.Path.{refl, ap}
+use Rattle.std.proofs.Common.{◌∙◌, arith}
+use Rattle.net_file_laws.specs.Bytes.{Bytes}
 use Rattle.fields.specs.Fields.{be16}
-use Rattle.stored.specs.Stored.{table_at, pair_at, pairs_at, pair_count_at, flat_net_end, net_count_at}
-use Rattle.ends.specs.Ends.{within, on}
+use Rattle.stored.specs.Stored.{table_at, pair_at, pairs_at, pair_count_at}
+use Rattle.ends.specs.Ends.{within}
 use Rattle.clear.specs.Zeroed.{zeroed}
-use Rattle.text_writers.specs.Wrote.{far, Wrote, then, wrote_as, Still, still_on, still_none}
+use Rattle.text_writers.specs.Wrote.{Wrote, wrote_as}
 use Rattle.wire_marks.specs.Marks.{mark, marked}
 use Rattle.tree_writers.specs.Trees.{net_part}
-use Rattle.convert_frame.specs.declared.Converted.TheVariants.{Written, Refused}
-use Rattle.convert_frame.specs.Head.{head_bytes}
-use Rattle.convert_frame.specs.Called.{scratch_words, Given, given_full, given_written}
-use Rattle.convert_frame.specs.Nets.{zeroed_set, zeroed_within, nets_words, nets_bytes, words_next, bytes_next, words_done, bytes_done, words_kept}
+use Rattle.convert_frame.specs.Nets.{zeroed_set}
+use Rattle.flat_frame.specs.Nets.{Kind, parts_of, words_of, whole_of, left_of, result_of}
 
 module _ (s : List ℕ) where
   -- the scratch with the pairs of the net at a place marked
   unfoldable pub mark_net : List ℕ → ℕ → ℕ → List ℕ
   mark_net ws stamp at = let p = within s (pair_count_at s at) in marked stamp (pairs_at s (p + 2) (be16 s p)) ws
-
-  abbrev tree_net : List ℕ → ℕ → ℕ → List ℕ
-  tree_net ws stamp at = net_part ws stamp s at
-
-  -- what is written of k nets from a place on, and the scratch after them
-  unfoldable pub tree_nets : List ℕ → ℕ → ℕ → ℕ → List ℕ
-  tree_nets ws stamp at k = nets_bytes s mark_net tree_net (flat_net_end s) ws stamp at k
-
-  unfoldable pub tree_words : List ℕ → ℕ → ℕ → ℕ → List ℕ
-  tree_words ws stamp at k = nets_words s mark_net tree_net (flat_net_end s) ws stamp at k
-
-  -- a whole result with this length in its length field, and the scratch after it
-  unfoldable pub tree_whole : List ℕ → ℕ → List ℕ
-  tree_whole ws n =
-      let q = within s (net_count_at s) in
-      head_bytes s q 65 (be16 s q) n ++ tree_nets (zeroed 65536 ws) 0 (on s q 2) (be16 s q)
-
-  unfoldable pub tree_left : List ℕ → List ℕ
-  tree_left ws = let q = within s (net_count_at s) in tree_words (zeroed 65536 ws) 0 (on s q 2) (be16 s q)
-
-  -- the result: its own length is in its length field
-  unfoldable pub tree_result : List ℕ → List ℕ
-  tree_result ws = tree_whole ws (length (tree_whole ws 0))
 
   -- ---- a net
 
@@ -56,45 +29,6 @@ module _ (s : List ℕ) where
     pub net_written : (at r : ℕ) (out z : List ℕ) → p ≡ within s (pair_count_at s from) → w ≡ marked stamp (pairs_at s (p + 2) (be16 s p)) ws
         → Wrote (net_part w stamp s from) at out z r → Wrote (net_part (mark_net ws stamp from) stamp s from) at out z r
     net_written at r out z e h t = wrote_as (ap (λ u. net_part u stamp s from) (net_marked e h)) t
-
-  -- ---- the nets
-
-  module _ (ws w : List ℕ) (stamp t place k a : ℕ) where
-    pub words_more : (x : List ℕ) → tree_words ws stamp place k ≡ x → 0 < k → t ≡ stamp + 1 → w ≡ mark_net ws t place → a ≡ within s (flat_net_end s place)
-        → tree_words w t a (k - 1) ≡ x
-    unfolding tree_words
-    words_more x e h et ew ea = sym (words_next s mark_net tree_net (flat_net_end s) ws w stamp t place a k h et ew ea) ∙ e
-
-    pub nets_more : (at p q : ℕ) (out o z whole : List ℕ) → Still (tree_nets ws stamp place k) whole at out o p → 0 < k → t ≡ stamp + 1 → w ≡ mark_net ws t place
-        → Wrote (net_part (mark_net ws t place) t s place) p o z q → a ≡ within s (flat_net_end s place) → Still (tree_nets w t a (k - 1)) whole at out z q
-    unfolding tree_nets
-    nets_more at p q out o z whole st h et ew u ea =
-        still_on st (bytes_next s mark_net tree_net (flat_net_end s) ws w stamp t place a k h et ew ea) (wrote_as (ap (λ v. net_part v t s place) (sym ew)) u)
-
-  module _ (ws : List ℕ) (stamp place k : ℕ) where
-    pub words_end : (x : List ℕ) → tree_words ws stamp place k ≡ x → k ≤ 0 → ws ≡ x
-    unfolding tree_words
-    words_end x e h = sym (words_done s mark_net tree_net (flat_net_end s) ws stamp place k h) ∙ e
-
-    pub nets_end : (at p : ℕ) (out o whole : List ℕ) → Still (tree_nets ws stamp place k) whole at out o p → k ≤ 0 → Wrote whole at out o p
-    unfolding tree_nets
-    nets_end at p out o whole st h = still_none st (bytes_done s mark_net tree_net (flat_net_end s) ws stamp place k h)
-
-  -- ---- the whole
-
-  module _ (ws w x : List ℕ) (q n a : ℕ) (ew : w ≡ zeroed 65536 ws) (eq : q ≡ within s (net_count_at s)) (en : n ≡ be16 s q) (ea : a ≡ on s q 2) where
-    pub whole_left : x ≡ tree_words w 0 a n → x ≡ tree_left ws
-    unfolding tree_left
-    whole_left e = e ∙ rw (ew, ea, en, eq)
-
-    pub whole_is : (m p r : ℕ) (out o z : List ℕ) → Wrote (head_bytes s q 65 n m) 0 out o p → Wrote (tree_nets w 0 a n) p o z r → Wrote (tree_whole ws m) 0 out z r
-    unfolding tree_whole
-    whole_is m p r out o z t u = wrote_as (rw (ew, ea, en, eq)) (then t u)
-
-  -- the length of a result does not depend on its length field
-  whole_length : (ws : List ℕ) (n : ℕ) → length (tree_whole ws n) ≡ length (tree_whole ws 0)
-  unfolding tree_whole head_bytes
-  whole_length ws n = simp (length-append, length_be)
 
   -- marks stay in the table
   module _ (b : Bytes s) where
@@ -108,31 +42,28 @@ module _ (s : List ℕ) where
         let v = mark stamp (be16 s at) in
         zeroed_marked m wide stamp (at + 4) k (set ws (be16 s (at + 2)) v) ∙ zeroed_set m ws (be16 s (at + 2)) v (omega (arith, wire_low (at + 2)))
 
-    mark_kept : (m : ℕ) → 65536 ≤ m → (ws : List ℕ) (stamp at : ℕ) → zeroed m (mark_net ws stamp at) ≡ zeroed m ws
+    pub mark_kept : (m : ℕ) → 65536 ≤ m → (ws : List ℕ) (stamp at : ℕ) → zeroed m (mark_net ws stamp at) ≡ zeroed m ws
     unfolding mark_net
     mark_kept m wide ws stamp at = zeroed_marked m wide stamp _ _ ws
 
-    left_kept : (m : ℕ) → 65536 ≤ m → (ws : List ℕ) → zeroed m (tree_left ws) ≡ zeroed m ws
-    unfolding tree_left tree_words
-    left_kept m wide ws = words_kept s mark_net tree_net (flat_net_end s) m (mark_kept m wide) (zeroed 65536 ws) 0 _ _ ∙ zeroed_within 65536 m ws wide
+-- what the call marks and writes of a net; a table of 65,536 words
+abbrev pub tree_kind : Kind 65536
+tree_kind = record { mark = mark_net; part = λ s ws stamp at. net_part ws stamp s at; room = omega arith; kept = mark_kept }
 
-    -- so a result that is written after another is the same
-    whole_again : (ws w : List ℕ) (n : ℕ) → w ≡ tree_left ws → tree_whole w n ≡ tree_whole ws n
-    unfolding tree_whole
-    whole_again ws w n e = let z : zeroed 65536 w ≡ zeroed 65536 ws = ap (zeroed 65536) e ∙ left_kept 65536 (omega arith) ws in rw z
+-- what is written of k nets from a place on, and the scratch after them
+abbrev pub tree_nets : List ℕ → List ℕ → ℕ → ℕ → ℕ → List ℕ
+tree_nets = parts_of tree_kind
 
-  -- ---- 15, or the result
+abbrev pub tree_words : List ℕ → List ℕ → ℕ → ℕ → ℕ → List ℕ
+tree_words = words_of tree_kind
 
-  module _ (ws w x y out v : List ℕ) (n : ℕ) (b : (i : ℕ) → get_or s i 0 < 256) where
-    pub tree_full : Wrote (tree_whole ws 0) 0 x y n → w ≡ tree_left ws → length out < n → v ≡ zeroed scratch_words w → Given (fitted (length out) (tree_result ws)) ws out (Refused 15) v out
-    unfolding tree_result
-    tree_full m e h z = given_full _ _ x y ws out n m (sym (whole_length ws _)) v h (z ∙ ap (zeroed scratch_words) e ∙ left_kept b scratch_words (omega arith) ws)
+-- a whole result with this length in its length field, and the scratch after it
+abbrev pub tree_whole : List ℕ → List ℕ → ℕ → List ℕ
+tree_whole = whole_of tree_kind 65
 
-    pub tree_written : (o u : List ℕ) (r : ℕ) → Wrote (tree_whole ws 0) 0 x y n → w ≡ tree_left ws → n ≤ length out → length out < far → Wrote (tree_whole w n) 0 out o r → u ≡ tree_left w
-        → v ≡ zeroed scratch_words u → Given (fitted (length out) (tree_result ws)) ws out (Written n) v o
-    unfolding tree_result
-    tree_written o u r m e h l t f z =
-        let k : n ≡ length (tree_whole ws 0) = omega (arith, m.is) in
-        let a : tree_whole w n ≡ tree_whole ws (length (tree_whole ws 0)) = whole_again b ws w n e ∙ ap (tree_whole ws) k in
-        let i = z ∙ ap (zeroed scratch_words) f ∙ left_kept b scratch_words (omega arith) w ∙ ap (zeroed scratch_words) e ∙ left_kept b scratch_words (omega arith) ws in
-        given_written _ _ x y ws out n m (sym (whole_length ws _)) v o r h l i (wrote_as a t)
+abbrev pub tree_left : List ℕ → List ℕ → List ℕ
+tree_left = left_of tree_kind
+
+-- the result: its own length is in its length field
+abbrev pub tree_result : List ℕ → List ℕ → List ℕ
+tree_result = result_of tree_kind 65

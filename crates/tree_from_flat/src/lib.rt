@@ -1,77 +1,42 @@
 // A tree file from a flat one: `to_tree` of net.rs, as a call on files.
 #![tactic(auto)]
 
-ghost use Rattle.std.specs.Prelude.{◌+◌, ◌≡◌, length};
-ghost use Rattle.conversions.specs.Calls.{fitted, to_tree_call};
-ghost use Rattle.text_writers.specs.Wrote.{Wrote};
-ghost use Rattle.tree_writers.specs.Trees.{net_part};
-ghost use Rattle.convert_frame.specs.Called.{long, Called, Given};
-ghost use Rattle.tree_from_flat.specs.Nets.{mark_net, tree_nets, tree_words, tree_whole, tree_left, tree_result};
+ghost use Rattle.std.specs.Prelude.{length};
+ghost use Rattle.conversions.specs.Calls.{to_tree_call};
+ghost use Rattle.convert_frame.specs.Called.{long, Called};
+ghost use Rattle.tree_from_flat.specs.Nets.{tree_kind};
 
-use convert_frame::Converted;
-use net_check::Checked;
+use flat_frame::Conversion;
+use refusals::Refusal;
 
-// The net at a place: its pairs marked by its stamp, then written.
-fn net(out: &mut [u8], at: usize, ws: &mut [u32], stamp: u16, s: &[u8], from: usize) -> usize
-    ensures { Wrote (net_part (mark_net s.now ws.old stamp from) stamp s.now from) at out.old out.new result × (ws.new ≡ mark_net s.now ws.old stamp from) }
-{
-    let p = ends::pair_count_at(s, from);
-    wire_marks::mark_pairs(ws, stamp, s, p);
-    tree_writers::tree_net(out, at, ws, stamp, s, from)
-}
+// Each net to one of trees: its pairs are marked in a word for each wire.
+struct ToTree;
 
-// So many nets, from a place on.
-fn nets(out: &mut [u8], at: usize, ws: &mut [u32], s: &[u8], from: usize, n: u16) -> usize
-    ensures { Wrote (tree_nets s.now ws.old 0 from n) at out.old out.new result × (ws.new ≡ tree_words s.now ws.old 0 from n) }
-{
-    let mut p = at;
-    let mut place = from;
-    let mut stamp: u16 = 0;
-    let mut k = n;
-    while 0 < k {
-        stamp += 1;
-        p = net(out, p, ws, stamp, s, place);
-        place = ends::flat_net_end(s, place);
-        k -= 1;
+impl Conversion for ToTree {
+    ghost VERSION = { 65 };
+
+    ghost TABLE = { 65536 };
+
+    ghost kind = { tree_kind };
+
+    const VERSION: u8 = 65;
+
+    const TABLE: usize = 65536;
+
+    // The net at a place: its pairs marked by its stamp, then written.
+    fn net(out: &mut [u8], at: usize, ws: &mut [u32], stamp: u16, s: &[u8], from: usize) -> usize {
+        let p = ends::pair_count_at(s, from);
+        wire_marks::mark_pairs(ws, stamp, s, p);
+        tree_writers::tree_net(out, at, ws, stamp, s, from)
     }
-    p
 }
 
-// The whole result, with this length in its length field, of a table without marks.
-fn whole(out: &mut [u8], ws: &mut [u32], s: &[u8], length: usize) -> usize
-    ensures { Wrote (tree_whole s.now ws.old length) 0 out.old out.new result × (ws.new ≡ tree_left s.now ws.old) }
-{
-    clear::clear_words(ws, 65536);
-    let q = readers::net_count_at(s);
-    let n = fields::be16(s, q);
-    let p = convert_frame::head(out, s, q, 65, n, length);
-    nets(out, p, ws, s, ends::on(s, q, 2), n)
-}
-
-// An accepted file: its length is found out first, by writing it where there is no room.
-fn accepted(s: &[u8], ws: &mut [u32], out: &mut [u8]) -> Converted
-    ensures { Given (fitted (length out.old) (tree_result s.now ws.old)) ws.old out.old result ws.new out.new }
-{
-    let mut none = [0u8; 1];
-    let n = whole(&mut none, ws, s, 0);
-    if out.len() < n {
-        clear::clear_words(ws, convert_frame::SCRATCH);
-        return Converted::Refused(15);
-    }
-    whole(out, ws, s, n);
-    clear::clear_words(ws, convert_frame::SCRATCH);
-    Converted::Written(n)
-}
-
-pub fn tree_from_flat(file: &[u8], scratch: &mut [u32], out: &mut [u8]) -> Converted
+pub fn tree_from_flat(file: &[u8], scratch: &mut [u32], out: &mut [u8]) -> Result<usize, Refusal>
     ensures { Called (to_tree_call (long scratch.old) (length out.old) file.now) scratch.old out.old result scratch.new out.new }
 {
     if scratch.len() < convert_frame::SCRATCH {
-        return Converted::Refused(1);
+        return Err(Refusal::TooLittleLent);
     }
-    let checked = net_check::check_flat(file);
-    match checked {
-        Checked::Accepted => accepted(file, scratch, out),
-        Checked::Refused(r) => Converted::Refused(r as u32),
-    }
+    net_check::check_flat(file)?;
+    flat_frame::accepted::<ToTree>(file, scratch, out)
 }

@@ -1,13 +1,13 @@
 -- A flat net as a tree net, by what stands at each place of the file and in the table by wire; each way out of the writers; and
--- that inside a file it is `writeTreeNet` (`net-inside`).
+-- that inside a file it is `write_tree_net` (`net_inside_lem`).
 use Prim.Native.Nat.{ℕ, zero, suc, ◌+◌, ◌*◌, ◌-◌, ◌≤◌, ◌<◌}
-use Rattle.std.specs.Prelude.{◌≡◌, Bool, List, [], ◌∷◌, ◌++◌, map, eqb}
+use Rattle.std.specs.Prelude.{◌≡◌, List, [], ◌∷◌, ◌++◌, map, eqb}
 use Rattle.std.proofs.Math.Path.{refl, sym, ap}
 use Rattle.std.proofs.Common.{◌∙◌, append_assoc, not-suc-le-zero}
 use native.Mathlib.Omega.{arith}
 use Rattle.std.proofs.Math.ListN.{length}
 use Rattle.net_file.specs.Lists.{concat_map}
-use Rattle.net_file.specs.Values.{FlatNode, FlatNet, Tree, wire, node, Trees, more, trees, listed, TreeNet}
+use Rattle.net_file.specs.Values.{FlatNode, FlatNet, Tree, wire, node, trees, listed, TreeNet}
 use Rattle.net_file.specs.Write.{be, counted, write_name, write_head, write_tree, write_trees, write_link, write_tree_net}
 use Rattle.conversions.specs.Links.{canonical, links_of}
 use Rattle.conversions.specs.Convert.{to_tree}

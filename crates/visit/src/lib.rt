@@ -44,9 +44,7 @@ fn tries(ws: &mut [u32], file: &[u8], sets: &[u64], rules: u64, v: Visited) -> T
     ensures { (result ≡ (tries ws.old file.now sets.now v rules 0 64).is) × (ws.new ≡ (tries ws.old file.now sets.now v rules 0 64).ws) }
 {
     let mut set = rules;
-    let mut r: u32 = 0;
-    let mut left: u32 = 64;
-    while 0 < left {
+    for r in 0..64 {
         if set == 0 {
             return Tried::Passed;
         }
@@ -57,8 +55,6 @@ fn tries(ws: &mut [u32], file: &[u8], sets: &[u64], rules: u64, v: Visited) -> T
             Tried::Refused(n) => return Tried::Refused(n),
         }
         set = set / 2;
-        r = layout::next(r);
-        left -= 1;
     }
     Tried::Passed
 }

@@ -1,13 +1,12 @@
 -- What a function of the crate leaves on each way out, and one turn of each loop, in the words of its tests and calls.
 use Rattle.std.specs.Prelude.{ℕ, zero, suc, ◌-◌, ◌<◌, ◌≤◌, ◌≡◌, refl, List, get_or}
 use Rattle.std.proofs.Common.{◌∙◌, not-suc-le-zero, sub-one}
-use Rattle.words.specs.Choose.{if_eq, eq_yes, eq_no, eq_cases}
-use Rattle.words.specs.Left.{Left, whole}
+use Rattle.words.specs.Choose.{eq_yes, eq_no}
+use Rattle.words.specs.Left.{whole}
 use Rattle.layout.specs.Layout.{net_word_words, set_net_word, node_word, set_wait_word}
 use Rattle.graph.specs.Graph.{mark_dirty_words, more, fewer}
 use Rattle.pools.specs.Pools.{take_wait}
 use Rattle.waits.specs.Waits.{append_wait, waiting, await_net_words, take_waits, wake, settle, next_wait, answer, answer_all, finish_edit_net_words}
-use Rattle.waits.specs.declared.Awaited.{Awaited}
 use Rattle.waits.specs.declared.Awaited.TheVariants.{Ready, Waiting, Full}
 
 pub append_first : (ws w1 w2 x : List ℕ) (m c p : ℕ) → p ≡ net_word_words ws m 9 → w1 ≡ set_wait_word ws c 2 0 → p ≡ 0 → w2 ≡ set_net_word w1 m 8 c

@@ -100,13 +100,11 @@ fn answer_all(ws: &mut [u32], c: u32, k: u32)
     ensures { ws.new ≡ answer_all ws.old c k }
 {
     let mut cur = c;
-    let mut left = k;
-    while 0 < left {
+    for _ in 0..k {
         if cur == 0 {
             return;
         }
         cur = answer(ws, cur);
-        left -= 1;
     }
 }
 

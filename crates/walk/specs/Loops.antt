@@ -1,34 +1,32 @@
 -- The walk over n parts, one after another: one turn, a turn that stops it, the end.
 use Prim.Native.Nat.{ℕ, zero, suc, ◌+◌, ◌*◌, ◌-◌, ◌<◌, ◌≤◌}
-use Rattle.std.specs.Prelude.{◌≡◌, length, drop}
+use Rattle.std.specs.Prelude.{◌≡◌, length, drop, Option, Some, None}
 use Rattle.std.proofs.Math.Path.{refl, sym, ap}
 use Rattle.std.proofs.Common.{◌∙◌, add-one, sub-one, not-suc-le-zero}
-use Rattle.std.proofs.Math.Option.{Option, none, some}
+use Rattle.std.proofs.Math.Option.{Option as Parsed, none, some}
 use mathlib.Core.List.{List, [], ◌∷◌}
 use native.Mathlib.Omega.{arith}
 use Rattle.net_file.specs.Read.{Parser, then, ◌>>=◌, give, times_from, times}
 use Rattle.stored.specs.Laws.{Stands}
-use Rattle.walk.specs.declared.Walked.{Walked}
-use Rattle.walk.specs.declared.Walked.TheVariants.{At, Bad}
-use Rattle.walk.specs.After.{after, place, Same, same_map, same_bind, after_none, after_bind, after_stop, after_go, after_bad, after_map, after_give}
+use Rattle.walk.specs.After.{after, place, Same, same_map, same_bind, after_bind, after_stop, after_go, after_bad, after_map, after_give}
 
 -- ---- parts that may depend on their place in the list
 
 module _ {A : Type 0} (p : ℕ → Parser A) (s : List ℕ) where
-  pub from_more : (i at at' k : ℕ) (v : A) (e : ℕ) (r x : Walked) → Stands s (p i) at v e → after at (times_from p i k) s ≡ x → 0 < k
-      → r ≡ after at (p i) s → r ≡ At at' → after at' (times_from p (i + 1) (k - 1)) s ≡ x
+  pub from_more : (i at at' k : ℕ) (v : A) (e : ℕ) (r x : Option ℕ) → Stands s (p i) at v e → after at (times_from p i k) s ≡ x → 0 < k
+      → r ≡ after at (p i) s → r ≡ Some at' → after at' (times_from p (i + 1) (k - 1)) s ≡ x
   unfolding times_from
   from_more i at at' zero v e r x st g h er ea = absurd (not-suc-le-zero h)
   from_more i at at' (suc k) v e r x st g h er ea =
       rw (sub-one, add-one) (sym (after_map (times_from p (suc i) k) (λ xs. v ∷ xs) s at')
       ∙ sym (after_go (p i) (λ y. times_from p (suc i) k >>= λ ys. give (y ∷ ys)) s at v e at' r st er ea) ∙ g)
 
-  pub from_bad : (i at k : ℕ) (r x : Walked) → after at (times_from p i k) s ≡ x → 0 < k → r ≡ after at (p i) s → r ≡ Bad → Bad ≡ x
+  pub from_bad : (i at k : ℕ) (r x : Option ℕ) → after at (times_from p i k) s ≡ x → 0 < k → r ≡ after at (p i) s → r ≡ None → None ≡ x
   unfolding times_from
   from_bad i at zero r x g h er eb = absurd (not-suc-le-zero h)
   from_bad i at (suc k) r x g h er eb = after_bad (p i) (λ y. times_from p (suc i) k >>= λ ys. give (y ∷ ys)) s at r er eb ∙ g
 
-  pub from_done : (i at k : ℕ) (x : Walked) → after at (times_from p i k) s ≡ x → k ≤ 0 → at ≤ length s → At at ≡ x
+  pub from_done : (i at k : ℕ) (x : Option ℕ) → after at (times_from p i k) s ≡ x → k ≤ 0 → at ≤ length s → Some at ≡ x
   unfolding times_from
   from_done i at zero x g h l = after_give {A = List A} [] s at l ∙ g
   from_done i at (suc k) x g h l = absurd (not-suc-le-zero h)
@@ -51,30 +49,37 @@ module _ {A : Type 0} (p : Parser A) where
 
   module _ (s : List ℕ) where
     -- one turn, by what the part at its place is read as
-    pub times_next : (at m k : ℕ) (v : A) (x : Walked) → after at (times k p) s ≡ x → 0 < k
+    pub times_next : (at m k : ℕ) (v : A) (x : Option ℕ) → after at (times k p) s ≡ x → 0 < k
         → at ≤ length s → p (drop at s) ≡ some (v, drop m s) → m ≤ length s → after m (times (k - 1) p) s ≡ x
     times_next at m zero v x g h i r l = absurd (not-suc-le-zero h)
     times_next at m (suc k) v x g h i r l =
         rw sub-one (sym (after_map (times k p) (λ xs. v ∷ xs) s m)
         ∙ sym (after_bind p (λ y. times k p >>= λ ys. give (y ∷ ys)) s at v m i r l) ∙ rw times_suc at g)
 
-    pub times_none : (at k : ℕ) (x : Walked) → after at (times k p) s ≡ x → 0 < k → at ≤ length s → p (drop at s) ≡ none → Bad ≡ x
+    pub times_none : (at k : ℕ) (x : Option ℕ) → after at (times k p) s ≡ x → 0 < k → at ≤ length s → p (drop at s) ≡ none → None ≡ x
     times_none at zero x g h i r = absurd (not-suc-le-zero h)
     times_none at (suc k) x g h i r = after_stop p (λ y. times k p >>= λ ys. give (y ∷ ys)) s at i r ∙ rw times_suc at g
 
     -- one turn, by what a walk over the part answered
-    pub times_more : (at at' k : ℕ) (v : A) (e : ℕ) (r x : Walked) → Stands s p at v e → after at (times k p) s ≡ x → 0 < k
-        → r ≡ after at p s → r ≡ At at' → after at' (times (k - 1) p) s ≡ x
+    pub times_more : (at at' k : ℕ) (v : A) (e : ℕ) (r x : Option ℕ) → Stands s p at v e → after at (times k p) s ≡ x → 0 < k
+        → r ≡ after at p s → r ≡ Some at' → after at' (times (k - 1) p) s ≡ x
     times_more at at' zero v e r x st g h er ea = absurd (not-suc-le-zero h)
     times_more at at' (suc k) v e r x st g h er ea =
         rw sub-one (sym (after_map (times k p) (λ xs. v ∷ xs) s at')
         ∙ sym (after_go p (λ y. times k p >>= λ ys. give (y ∷ ys)) s at v e at' r st er ea) ∙ rw times_suc at g)
 
-    pub times_bad : (at k : ℕ) (r x : Walked) → after at (times k p) s ≡ x → 0 < k → r ≡ after at p s → r ≡ Bad → Bad ≡ x
+    -- the same in a loop that counts up to n
+    pub times_turn : (at at' n i : ℕ) (v : A) (e : ℕ) (r x : Option ℕ) → Stands s p at v e → after at (times (n - i) p) s ≡ x → i < n
+        → r ≡ after at p s → r ≡ Some at' → after at' (times (n - (i + 1)) p) s ≡ x
+    times_turn at at' n i v e r x st g h er ea =
+        let k : n - (i + 1) ≡ n - i - 1 = omega arith in
+        rw k (times_more at at' (n - i) v e r x st g (omega arith) er ea)
+
+    pub times_bad : (at k : ℕ) (r x : Option ℕ) → after at (times k p) s ≡ x → 0 < k → r ≡ after at p s → r ≡ None → None ≡ x
     times_bad at zero r x g h er eb = absurd (not-suc-le-zero h)
     times_bad at (suc k) r x g h er eb = after_bad p (λ y. times k p >>= λ ys. give (y ∷ ys)) s at r er eb ∙ rw times_suc at g
 
-    pub times_done : (at k : ℕ) (x : Walked) → after at (times k p) s ≡ x → k ≤ 0 → at ≤ length s → At at ≡ x
+    pub times_done : (at k : ℕ) (x : Option ℕ) → after at (times k p) s ≡ x → k ≤ 0 → at ≤ length s → Some at ≡ x
     times_done at zero x g h l = after_give {A = List A} [] s at l ∙ rw times_zero at g
     times_done at (suc k) x g h l = absurd (not-suc-le-zero h)
 
@@ -108,11 +113,11 @@ module _ {A : Type 0} (p : Parser A) (s : List ℕ) where
   paired : {B : Type 0} (f : A × A → Parser B) (bs : List ℕ) → (pair >>= f) bs ≡ (p >>= λ a. p >>= λ b. f (a, b)) bs
   paired {B} f bs = first (p bs)
     where
-      second : (a : A) (o : Option (A × List ℕ)) → then (then o (λ b. give (a, b))) f ≡ then o (λ b. f (a, b))
+      second : (a : A) (o : Parsed (A × List ℕ)) → then (then o (λ b. give (a, b))) f ≡ then o (λ b. f (a, b))
       second a none = refl
       second a (some q) = refl
 
-      first : (o : Option (A × List ℕ)) → then (then o (λ a. p >>= λ b. give (a, b))) f ≡ then o (λ a. p >>= λ b. f (a, b))
+      first : (o : Parsed (A × List ℕ)) → then (then o (λ a. p >>= λ b. give (a, b))) f ≡ then o (λ a. p >>= λ b. f (a, b))
       first none = refl
       first (some q) = second q.0 (p q.1)
 

@@ -1,12 +1,11 @@
 -- How many bytes a parser needs at least: with fewer left there is nothing to read.
-use Rattle.std.specs.Prelude.{ℕ, zero, suc, ◌+◌, ◌<◌, ◌≤◌, ◌≡◌, refl, List, length, drop}
-use Rattle.std.proofs.Common.{sym, ap, ◌∙◌, arith}
-use Rattle.std.proofs.Math.Option.{Option, none, some}
+use Rattle.std.specs.Prelude.{ℕ, suc, ◌+◌, ◌<◌, ◌≤◌, ◌≡◌, refl, List, length, drop, None}
+use Rattle.std.proofs.Common.{ap, arith}
+use Rattle.std.proofs.Math.Option.{Option as Parsed, none, some}
 use Rattle.std.proofs.Math.Decide.{dec_lt}
 use Rattle.net_file.specs.Read.{Parser, then, ◌>>=◌, number, below, times, many}
 use Rattle.net_file.specs.Read
 use Rattle.stored.specs.Laws.{Stands, run_out, below_out, byte_out}
-use Rattle.walk.specs.declared.Walked.TheVariants.{Bad}
 use Rattle.walk.specs.After.{after, after_past, after_none}
 
 pub record Needs {A : Type 0} (s : List ℕ) (k : ℕ) (p : Parser A) : Type 0 where
@@ -35,14 +34,14 @@ module _ {s : List ℕ} where
       → ((at : ℕ) → Stands s p at (v at) (at + j)) → ((x : A) → Needs s k (f x)) → Needs s (j + k) (p >>= f)
   needs_next {A} {B} j {k} {p} {v} f h g = record { out = λ at i l. go at i l (p (drop at s)) refl }
     where
-      go : (at : ℕ) → at ≤ length s → length s < at + (j + k) → (o : Option (A × List ℕ)) → p (drop at s) ≡ o → then (p (drop at s)) f ≡ none
+      go : (at : ℕ) → at ≤ length s → length s < at + (j + k) → (o : Parsed (A × List ℕ)) → p (drop at s) ≡ o → then (p (drop at s)) f ≡ none
       go at i l none e = rw e
       go at i l (some q) e =
           let y = (h at).by q.0 q.1 i e in
           let z : then (some q) f ≡ none = rw y.1 ((g q.0).out (at + j) y.3 (omega arith)) in
           rw e z
 
-pub after_short : {A : Type 0} {k : ℕ} {p : Parser A} (s : List ℕ) (at : ℕ) → Needs s k p → length s < at + k → Bad ≡ after at p s
+pub after_short : {A : Type 0} {k : ℕ} {p : Parser A} (s : List ℕ) (at : ℕ) → Needs s k p → length s < at + k → None ≡ after at p s
 after_short {p = p} s at h l = elim (dec_lt (length s) at) [
   | yes o ↦ after_past p s at o
   | no o ↦ after_none p s at (omega arith) (h.out at (omega arith) l)

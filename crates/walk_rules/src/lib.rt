@@ -1,62 +1,47 @@
 // Check 5 on the rules: a tag 1 to 5, then what that rule names.
-#![tactic(auto)]
+#![tactic(auto, using(crate::specs::Rules::ways))]
 
 ghost use Rattle.std.specs.Prelude.{◌≡◌};
 ghost use Rattle.net_file.specs.Read.{times, read_list, read_tagged, read_rule};
 ghost use Rattle.walk.specs.After.{after};
 
-use walk::Walked;
-
 // n lists of paths.
-pub fn lists(s: &[u8], from: usize, n: u32, paths: u32) -> Walked
+pub fn lists(s: &[u8], from: usize, n: u32, paths: u32) -> Option<usize>
     ensures { result ≡ after from (times n (read_list paths)) s.now }
 {
     if s.len() < from {
-        return Walked::Bad;
+        return None;
     }
     let mut at = from;
-    let mut k = n;
-    while 0 < k {
-        let w = walk::counted(s, at, 255, paths);
-        match w {
-            Walked::At(next) => {
-                at = next;
-            }
-            Walked::Bad => {
-                return Walked::Bad;
-            }
-        }
-        k -= 1;
+    for _ in 0..n {
+        at = walk::counted(s, at, 255, paths)?;
     }
-    Walked::At(at)
+    Some(at)
 }
 
 // A graft's path, and whether it is lazy.
-pub fn graft(s: &[u8], at: usize, paths: u32) -> Walked
+pub fn graft(s: &[u8], at: usize, paths: u32) -> Option<usize>
     ensures { result ≡ after at (read_tagged paths 1) s.now }
 {
-    if s.len() < 3 {
-        return Walked::Bad;
-    }
-    if s.len() - 3 < at {
-        return Walked::Bad;
+    if s.len().checked_sub(3)? < at {
+        return None;
     }
     let p = fields::be16(s, at);
     if paths <= p as u32 {
-        return Walked::Bad;
+        return None;
     }
     let lazy = fields::byte(s, at + 2);
     if 1 < lazy {
-        return Walked::Bad;
+        return None;
     }
-    Walked::At(at + 3)
+    Some(at + 3)
 }
 
-pub fn rule(s: &[u8], at: usize, paths: u32) -> Walked
+pub fn rule(s: &[u8], at: usize, paths: u32) -> Option<usize>
     ensures { result ≡ after at (read_rule paths) s.now }
 {
     if s.len() <= at {
-        return Walked::Bad;
+        return None;
     }
     let tag = fields::byte(s, at);
     match tag {
@@ -65,29 +50,19 @@ pub fn rule(s: &[u8], at: usize, paths: u32) -> Walked
         3 => lists(s, at + 1, 2, paths),
         4 => lists(s, at + 1, 2, paths),
         5 => lists(s, at + 1, 3, paths),
-        0 | 6..=255 => Walked::Bad,
+        0 | 6..=255 => None,
     }
 }
 
-pub fn rules(s: &[u8], from: usize, n: u32, paths: u32) -> Walked
+pub fn rules(s: &[u8], from: usize, n: u32, paths: u32) -> Option<usize>
     ensures { result ≡ after from (times n (read_rule paths)) s.now }
 {
     if s.len() < from {
-        return Walked::Bad;
+        return None;
     }
     let mut at = from;
-    let mut k = n;
-    while 0 < k {
-        let w = rule(s, at, paths);
-        match w {
-            Walked::At(next) => {
-                at = next;
-            }
-            Walked::Bad => {
-                return Walked::Bad;
-            }
-        }
-        k -= 1;
+    for _ in 0..n {
+        at = rule(s, at, paths)?;
     }
-    Walked::At(at)
+    Some(at)
 }

@@ -40,12 +40,10 @@ pub fn join_wires(ws: &mut [u32], wires: &mut [u32], file: &[u8], from: usize, p
 {
     let mut at = from;
     let mut port = p;
-    let mut left = k;
-    while 0 < left {
+    for _ in 0..k {
         join_wire(ws, wires, fields::be16(file, at) as u32, port);
         at = ends::on(file, at, 2);
         port = layout::next_port(port);
-        left -= 1;
     }
 }
 
@@ -54,12 +52,10 @@ pub fn put_pairs(wires: &mut [u32], file: &[u8], from: usize, k: u32)
     ensures { wires.new ≡ put_pairs wires.old file.now from k }
 {
     let mut at = from;
-    let mut left = k;
-    while 0 < left {
+    for _ in 0..k {
         let a = fields::be16(file, at) as u32;
         let b = net_readers::pair_second(file, at);
         words::put(wires, b.0 as usize, PAIRED + a);
         at = ends::on(file, at, 4);
-        left -= 1;
     }
 }

@@ -81,6 +81,7 @@ fn begins(ws: &[u32], a: u32) -> u32
     0
 }
 
+// Stays `while`, as `put_below` does: how far it is to the next wire is read from the marks.
 fn count_below(ws: &[u32], wires: u32) -> u32
     ensures { (result ≡ count_over ws.now (looked 65537 ws.now wires 0)) × (result ≤ wires) }
 {

@@ -1,8 +1,8 @@
 -- Parts that stand one after another, taken along a file: a place past the end is the end.
-use Prim.Native.Nat.{ℕ, zero, suc, ◌+◌, ◌-◌, ◌<◌, ◌≤◌}
-use Rattle.std.specs.Prelude.{◌≡◌, List, [], ◌∷◌, ◌++◌, length}
+use Prim.Native.Nat.{ℕ, zero, suc, ◌-◌, ◌<◌, ◌≤◌}
+use Rattle.std.specs.Prelude.{◌≡◌, List, [], ◌++◌, length}
 use Rattle.std.proofs.Math.Path.{refl}
-use Rattle.std.proofs.Common.{sym, ap, ◌∙◌, not-suc-le-zero}
+use Rattle.std.proofs.Common.{ap, not-suc-le-zero}
 use native.Mathlib.Omega.{arith}
 use Rattle.net_file.specs.Lists.{concat_map}
 use Rattle.stored.specs.Stored.{table_at, table_end}

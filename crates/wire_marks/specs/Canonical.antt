@@ -1,6 +1,6 @@
--- On a table without marks of its stamp, the marks of a net's pairs say which wires are one wire: `canon-exact`. And what a table
+-- On a table without marks of its stamp, the marks of a net's pairs say which wires are one wire: `canon_exact`. And what a table
 -- keeps: marks of later stamps come to none, words past the wires stay.
-use Rattle.std.specs.Prelude.{ℕ, zero, suc, ◌+◌, ◌*◌, ◌/◌, ◌%◌, ◌<◌, ◌≤◌, min, ◌≡◌, refl, Bool, not, ◌&&◌, ◌||◌, List, [], ◌∷◌, ◌++◌, map, length, get_or, set, T, eqb, ltb}
+use Rattle.std.specs.Prelude.{ℕ, suc, ◌/◌, ◌%◌, ◌<◌, ◌≤◌, min, ◌≡◌, refl, Bool, not, ◌&&◌, ◌||◌, List, [], ◌∷◌, map, length, get_or, set, T, eqb, ltb}
 use Rattle.std.proofs.Common.{sym, ◌∙◌, length-set, get_or-set_same, get_or-set_other, ltb→lt, eq-eqb, ne_eqb}
 use Rattle.std.proofs.Math.Path.{ap}
 use Rattle.std.proofs.Math.Bool.{true, false}
@@ -9,7 +9,7 @@ use native.Mathlib.Omega.{arith}
 use Rattle.std.proofs.Math.Decide.{ℕ_discrete, dec_lt}
 use Rattle.std.proofs.Math.Seq.{set_out}
 use Rattle.std.proofs.lemmas.Bool.{eqb-false}
-use Rattle.words.specs.Choose.{if_eq, eq_yes, eq_no}
+use Rattle.words.specs.Choose.{eq_yes, eq_no}
 use Rattle.net_file.specs.Lists.{all, any, distinct, ascend}
 use Rattle.net_file.specs.Checks.{pair_wires, pairs_ordered}
 use Rattle.net_file_laws.specs.Exact.{Each}

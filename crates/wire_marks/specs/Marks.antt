@@ -1,8 +1,8 @@
 -- The table of a net's pairs: at the greater wire of each the net's stamp and the smaller wire; and each way out of the code.
 use Prim.Native.Nat.{ℕ, zero, suc, ◌+◌, ◌*◌, ◌-◌, ◌/◌, ◌%◌, ◌<◌, ◌≤◌}
-use Rattle.std.specs.Prelude.{◌≡◌, List, [], ◌∷◌, length, get_or, set}
+use Rattle.std.specs.Prelude.{◌≡◌, List, [], ◌∷◌, get_or, set}
 use Rattle.std.proofs.Math.Path.{refl}
-use Rattle.std.proofs.Common.{sym, ap, ◌∙◌, not-suc-le-zero}
+use Rattle.std.proofs.Common.{◌∙◌, not-suc-le-zero}
 use native.Mathlib.Omega.{arith}
 use Rattle.words.specs.Choose.{if_eq, eq_yes, eq_no}
 use Rattle.fields.specs.Fields.{be16}

@@ -18,14 +18,10 @@ fn mark(stamp: u16, a: u16) -> u32
 fn mark_from(ws: &mut [u32], stamp: u16, s: &[u8], at: usize, n: u16)
     ensures { ws.new ≡ marked stamp (pairs_at s.now (at + (2 + 4 * 0)) n) ws.old }
 {
-    let mut j: u32 = 0;
-    let mut k = n;
-    while 0 < k {
+    for j in 0..n {
         let a = readers::be16_on(s, at, 2 + 4 * (j as usize));
         let b = readers::be16_on(s, at, 4 + 4 * (j as usize));
         words::put(ws, b as usize, mark(stamp, a));
-        j += 1;
-        k -= 1;
     }
 }
 

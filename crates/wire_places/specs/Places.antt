@@ -1,16 +1,16 @@
 -- The wires that occur in a net, marked in the second half of a table by wire; each way out of the code; and that the marks say
--- which wires occur (`occurs-exact`).
+-- which wires occur (`occurs_exact`).
 use Prim.Native.Nat.{ℕ, zero, suc, ◌+◌, ◌*◌, ◌-◌, ◌≤◌, ◌<◌}
-use Rattle.std.specs.Prelude.{◌≡◌, refl, Bool, true, false, ◌||◌, List, [], ◌∷◌, ◌++◌, length, get_or, set, eqb}
+use Rattle.std.specs.Prelude.{◌≡◌, refl, Bool, ◌||◌, List, [], ◌∷◌, ◌++◌, length, get_or, set, eqb}
 use Rattle.std.proofs.Math.Path.{sym, ap}
-use Rattle.std.proofs.Common.{◌∙◌, append_assoc, not-suc-le-zero, length-set, get_or-set_same, get_or-set_other, eq-eqb, ne_eqb}
+use Rattle.std.proofs.Common.{◌∙◌, not-suc-le-zero, length-set, get_or-set_same, get_or-set_other, eq-eqb, ne_eqb}
 use native.Mathlib.Omega.{arith}
 use Rattle.std.proofs.Math.Decide.{ℕ_discrete}
-use Rattle.net_file.specs.Lists.{any, concat_map}
+use Rattle.net_file.specs.Lists.{any}
 use Rattle.net_file.specs.Values.{FlatNode}
 use Rattle.net_file.specs.Checks.{places}
 use Rattle.fields.specs.Fields.{byte, be16}
-use Rattle.stored.specs.Stored.{table_at, table_end, numbers_at, list_at, name_end, node_at, node_end, nodes_at, node_count_at, flat_net_at, flat_net_end}
+use Rattle.stored.specs.Stored.{table_at, numbers_at, list_at, name_end, node_at, node_end, nodes_at, node_count_at, flat_net_at, flat_net_end}
 use Rattle.ends.specs.Ends.{within, on, node_up, table_up}
 use Rattle.readers.specs.Places.{be16_clamped}
 use Rattle.readers_laws.specs.Tables.{list_clamped}

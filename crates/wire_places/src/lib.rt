@@ -16,13 +16,9 @@ fn mark_wire(ws: &mut [u32], stamp: u16, w: u16)
 fn mark_wires(ws: &mut [u32], stamp: u16, s: &[u8], from: usize, n: u8)
     ensures { ws.new ≡ seen stamp (numbers_at s.now (from + (1 + 2 * 0)) n) ws.old }
 {
-    let mut j: u32 = 0;
-    let mut k = n;
-    while 0 < k {
+    for j in 0..n {
         let w = readers::be16_on(s, from, 1 + 2 * (j as usize));
         mark_wire(ws, stamp, w);
-        j += 1;
-        k -= 1;
     }
 }
 
@@ -46,11 +42,9 @@ fn mark_nodes(ws: &mut [u32], stamp: u16, s: &[u8], from: usize, n: u16)
     ensures { ws.new ≡ seen stamp (nodes_wires s.now from n) ws.old }
 {
     let mut place = from;
-    let mut k = n;
-    while 0 < k {
+    for _ in 0..n {
         mark_node(ws, stamp, s, place);
         place = ends::node_end(s, place);
-        k -= 1;
     }
 }
 

@@ -1,9 +1,8 @@
 -- Bytes stored one part after another, and parts stored apart: the order does not matter.
-use Rattle.std.specs.Prelude.{ℕ, ◌+◌, ◌-◌, ◌<◌, ◌≤◌, ◌≡◌, refl, List, ◌++◌, length, get_or, take, drop}
+use Rattle.std.specs.Prelude.{Option, Some, ℕ, ◌+◌, ◌-◌, ◌<◌, ◌≤◌, ◌≡◌, refl, List, ◌++◌, length, get_or, take, drop}
 use Rattle.std.proofs.Common.{sym, ap, ◌∙◌, arith, length-append, ext_get_or, get_or-append-add, get_or-take, get_or-drop, length-take-le}
 use Rattle.std.proofs.Math.Decide.{dec_lt}
 use Rattle.std.proofs.Math.ListN.{get_or-append}
-use Rattle.put.specs.declared.Put.TheVariants.{At}
 use Rattle.put.specs.Written.{Written}
 use Rattle.put.specs.Laws.{put_in_yes, length_put_in, begin, placed, then}
 use Rattle.store.specs.Store.{store}
@@ -48,8 +47,8 @@ pub store_then : (out : List ℕ) (at : ℕ) (xs ys : List ℕ) → at + (length
     → store (at + length xs) ys (store at xs out) ≡ store at (xs ++ ys) out
 store_then out at xs ys room =
     let l = length_put_in out at xs (omega arith) in
-    let first : Written xs at out (store at xs out) (At (at + length xs)) = placed (record { is = refl }) (omega arith) refl in
-    let second : Written ys (at + length xs) (store at xs out) (store (at + length xs) ys (store at xs out)) (At (at + length xs + length ys))
+    let first : Written xs at out (store at xs out) (Some (at + length xs)) = placed (record { is = refl }) (omega arith) refl in
+    let second : Written ys (at + length xs) (store at xs out) (store (at + length xs) ys (store at xs out)) (Some (at + length xs + length ys))
     = placed (record { is = refl }) (omega arith) refl in
     (then (begin (record { is = refl }) first) (record { is = refl }) refl room second).written.out
 

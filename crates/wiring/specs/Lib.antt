@@ -1,3 +1,4 @@
 pub mod Wiring
 pub mod Fits
 pub mod Steps
+pub mod Tells

@@ -1,13 +1,13 @@
 -- Each way out of the loops of check 7.
-use Prim.Native.Nat.{ℕ, zero, suc, ◌+◌, ◌*◌, ◌-◌, ◌/◌, ◌<◌, ◌≤◌}
+use Prim.Native.Nat.{ℕ, zero, suc, ◌+◌, ◌*◌, ◌-◌, ◌<◌, ◌≤◌}
 use Rattle.std.specs.Prelude.{◌≡◌, refl, Bool, true, false, ◌&&◌, get_or, eqb}
 use Rattle.std.proofs.Math.Path.{sym, ap}
-use Rattle.std.proofs.Common.{◌∙◌, not-suc-le-zero, eq-eqb, ne_eqb}
+use Rattle.std.proofs.Common.{◌∙◌, not-suc-le-zero}
 use mathlib.Core.List.{List, [], ◌∷◌, ◌++◌}
 use native.Mathlib.Omega.{arith}
 use Rattle.std.proofs.Math.Numerals.{sub-one}
 use Rattle.std.proofs.Math.ListN.{length}
-use Rattle.words.specs.Choose.{if_lt, lt_yes, lt_no}
+use Rattle.words.specs.Choose.{lt_yes, lt_no}
 use Rattle.net_file.specs.Lists.{all}
 use Rattle.list_laws.specs.Lists.{all_append}
 use Rattle.fields.specs.Fields.{byte, be16}
@@ -18,16 +18,12 @@ use Rattle.tally.specs.Tally.{tally, bump, tally_append}
 use Rattle.wiring.specs.Wiring.{twice, alike, pair_run, node_wires, nodes_wires, free_wires, net_pairs, net_nodes, net_wired}
 
 module _ (s : List ℕ) (from n : ℕ) where
-  pub tally_past : (counts : List ℕ) (base : ℕ) → length s < from → counts ≡ tally counts base (run s from n)
+  pub tally_none : (counts : List ℕ) (base : ℕ) → length s < from + 2 * n → counts ≡ tally counts base (run s from n)
   unfolding tally
-  tally_past counts base h = rw (run_none s from n (omega arith))
+  tally_none counts base h = rw (run_none s from n h)
 
-  pub tally_short : (counts : List ℕ) (base : ℕ) → from ≤ length s → (length s - from) / 2 < n → counts ≡ tally counts base (run s from n)
-  unfolding tally
-  tally_short counts base i h = rw (run_none s from n (omega arith))
-
-  pub tally_start : (counts : List ℕ) (base : ℕ) → from ≤ length s → n ≤ (length s - from) / 2 → tally counts base (numbers_at s from n) ≡ tally counts base (run s from n)
-  tally_start counts base i h = rw (run_all s from n (omega arith))
+  pub tally_start : (counts : List ℕ) (base : ℕ) → from + 2 * n ≤ length s → tally counts base (numbers_at s from n) ≡ tally counts base (run s from n)
+  tally_start counts base h = rw (run_all s from n h)
 
 pub tally_more : (s counts c : List ℕ) (base at k w : ℕ) (x : List ℕ) → tally counts base (numbers_at s at k) ≡ x → 0 < k → w ≡ be16 s at → c ≡ bump counts base w
     → tally c base (numbers_at s (at + 2) (k - 1)) ≡ x
@@ -61,16 +57,13 @@ module _ (s : List ℕ) (e w : ℕ) (l : 3 ≤ length s) (h : e ≤ length s - 3
   unfolding tally
   node_there counts c d base k ec ek ed = rw (there, ed, ec, ek)
 
-  pub there_once : (counts : List ℕ) (base c : ℕ) → c ≡ get_or counts w 0 → (c ≡ base + 2 → ⊥)
-      → false ≡ all (twice counts base) (run s e 1 ++ run s (on s e 3) (byte s (on s e 2)))
-  unfolding twice
-  there_once counts base c ec n = rw there (ap (λ t. t && all (twice counts base) (run s (e + 3) (byte s (e + 2)))) (sym (ne_eqb _ _ (λ z. n (ec ∙ z)))))
+  module _ (counts : List ℕ) (base : ℕ) (t : Bool) (et : t ≡ twice counts base w) where
+    pub there_once : t ≡ false → false ≡ all (twice counts base) (run s e 1 ++ run s (on s e 3) (byte s (on s e 2)))
+    there_once n = rw there (ap (λ u. u && all (twice counts base) (run s (e + 3) (byte s (e + 2)))) (sym (sym et ∙ n)))
 
-  pub there_twice : (counts : List ℕ) (base c k : ℕ) (r : Bool) → c ≡ get_or counts w 0 → c ≡ base + 2 → k ≡ byte s (e + 2)
-      → r ≡ all (twice counts base) (run s (e + 3) k) → r ≡ all (twice counts base) (run s e 1 ++ run s (on s e 3) (byte s (on s e 2)))
-  unfolding twice
-  there_twice counts base c k r ec y ek er =
-      rw there (er ∙ rw ek (ap (λ t. t && all (twice counts base) (run s (e + 3) (byte s (e + 2)))) (sym (eq-eqb _ _ (sym ec ∙ y)))))
+    pub there_twice : (k : ℕ) (r : Bool) → t ≡ true → k ≡ byte s (e + 2) → r ≡ all (twice counts base) (run s (e + 3) k)
+        → r ≡ all (twice counts base) (run s e 1 ++ run s (on s e 3) (byte s (on s e 2)))
+    there_twice k r y ek er = rw there (er ∙ rw ek (ap (λ u. u && all (twice counts base) (run s (e + 3) (byte s (e + 2)))) (sym (sym et ∙ y))))
 
 pub nodes_more : (s counts c : List ℕ) (base at e a k : ℕ) (x : List ℕ) → tally counts base (nodes_wires s at k) ≡ x → 0 < k → e ≡ within s (name_end s at)
     → c ≡ tally counts base (run s e 1 ++ run s (on s e 3) (byte s (on s e 2))) → a ≡ within s (list_end s (e + 2)) → tally c base (nodes_wires s a (k - 1)) ≡ x
@@ -88,26 +81,28 @@ nodes_done s counts base at (suc k) x g h = absurd (not-suc-le-zero h)
 -- ---- seen twice
 
 module _ (s counts : List ℕ) (base from n : ℕ) where
-  pub twice_past : length s < from → true ≡ all (twice counts base) (run s from n)
-  twice_past h = rw (run_none s from n (omega arith))
+  pub twice_none : length s < from + 2 * n → true ≡ all (twice counts base) (run s from n)
+  twice_none h = rw (run_none s from n h)
 
-  pub twice_short : from ≤ length s → (length s - from) / 2 < n → true ≡ all (twice counts base) (run s from n)
-  twice_short i h = rw (run_none s from n (omega arith))
+  pub twice_start : from + 2 * n ≤ length s → all (twice counts base) (numbers_at s from n) ≡ all (twice counts base) (run s from n)
+  twice_start h = rw (run_all s from n h)
 
-  pub twice_start : from ≤ length s → n ≤ (length s - from) / 2 → all (twice counts base) (numbers_at s from n) ≡ all (twice counts base) (run s from n)
-  twice_start i h = rw (run_all s from n (omega arith))
+-- whether a wire was
+pub twice_is : (counts : List ℕ) (base w c : ℕ) → c ≡ get_or counts w 0 → eqb c (base + 2) ≡ twice counts base w
+unfolding twice
+twice_is counts base w c e = ap (λ x. eqb x (base + 2)) e
 
-module _ (s counts : List ℕ) (base at w c : ℕ) (x : Bool) where
-  pub twice_more : (k : ℕ) → all (twice counts base) (numbers_at s at k) ≡ x → 0 < k → w ≡ be16 s at → c ≡ get_or counts w 0 → c ≡ base + 2
+module _ (s counts : List ℕ) (base at w : ℕ) (x t : Bool) where
+  pub twice_more : (k : ℕ) → all (twice counts base) (numbers_at s at k) ≡ x → 0 < k → w ≡ be16 s at → t ≡ twice counts base w → t ≡ true
       → all (twice counts base) (numbers_at s (at + 2) (k - 1)) ≡ x
-  unfolding numbers_at table_at twice
-  twice_more zero g h ew ec e = absurd (not-suc-le-zero h)
-  twice_more (suc k) g h ew ec e = rw sub-one (ap (λ t. t && all (twice counts base) (numbers_at s (at + 2) k)) (sym (eq-eqb _ _ (rw ew at (sym ec) ∙ e))) ∙ g)
+  unfolding numbers_at table_at
+  twice_more zero g h ew et e = absurd (not-suc-le-zero h)
+  twice_more (suc k) g h ew et e = rw sub-one (ap (λ y. y && all (twice counts base) (numbers_at s (at + 2) k)) (sym (sym (rw ew at et) ∙ e)) ∙ g)
 
-  pub twice_no : (k : ℕ) → all (twice counts base) (numbers_at s at k) ≡ x → 0 < k → w ≡ be16 s at → c ≡ get_or counts w 0 → (c ≡ base + 2 → ⊥) → false ≡ x
-  unfolding numbers_at table_at twice
-  twice_no zero g h ew ec e = absurd (not-suc-le-zero h)
-  twice_no (suc k) g h ew ec e = ap (λ t. t && all (twice counts base) (numbers_at s (at + 2) k)) (sym (ne_eqb _ _ (λ z. e (rw ew at ec ∙ z)))) ∙ g
+  pub twice_no : (k : ℕ) → all (twice counts base) (numbers_at s at k) ≡ x → 0 < k → w ≡ be16 s at → t ≡ twice counts base w → t ≡ false → false ≡ x
+  unfolding numbers_at table_at
+  twice_no zero g h ew et e = absurd (not-suc-le-zero h)
+  twice_no (suc k) g h ew et e = ap (λ y. y && all (twice counts base) (numbers_at s (at + 2) k)) (sym (sym (rw ew at et) ∙ e)) ∙ g
 
   pub twice_done : (k : ℕ) → all (twice counts base) (numbers_at s at k) ≡ x → k ≤ 0 → true ≡ x
   unfolding numbers_at table_at
@@ -156,23 +151,13 @@ nodes_twice_done s counts base at (suc k) x g h = absurd (not-suc-le-zero h)
 -- ---- pairs seen alike
 
 module _ (s counts : List ℕ) (from n : ℕ) where
-  pub alike_past : length s < from → true ≡ all (alike counts) (pair_run s from n)
+  pub alike_none : length s < from + 4 * n → true ≡ all (alike counts) (pair_run s from n)
   unfolding pair_run
-  alike_past h = rw (pairs_none (omega arith))
-    where
-      pairs_none : length s < from + 4 * n → pair_run s from n ≡ []
-      pairs_none l = sym (lt_yes _ _ _ _ l refl)
+  alike_none h = ap (all (alike counts)) (lt_yes _ _ _ _ h refl)
 
-  pub alike_short : from ≤ length s → (length s - from) / 4 < n → true ≡ all (alike counts) (pair_run s from n)
+  pub alike_start : from + 4 * n ≤ length s → all (alike counts) (pairs_at s from n) ≡ all (alike counts) (pair_run s from n)
   unfolding pair_run
-  alike_short i h = rw (pairs_none (omega arith))
-    where
-      pairs_none : length s < from + 4 * n → pair_run s from n ≡ []
-      pairs_none l = sym (lt_yes _ _ _ _ l refl)
-
-  pub alike_start : from ≤ length s → n ≤ (length s - from) / 4 → all (alike counts) (pairs_at s from n) ≡ all (alike counts) (pair_run s from n)
-  unfolding pair_run
-  alike_start i h = ap (all (alike counts)) (lt_no _ _ _ _ (omega arith) refl)
+  alike_start h = ap (all (alike counts)) (lt_no _ _ _ _ h refl)
 
 module _ (s counts : List ℕ) (at u v : ℕ) (x t : Bool) where
   pub alike_more : (k : ℕ) → all (alike counts) (pairs_at s at k) ≡ x → 0 < k → u ≡ be16 s at → v ≡ be16 s (at + 2) → t ≡ alike counts (u, v) → t ≡ true

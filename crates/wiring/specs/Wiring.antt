@@ -1,5 +1,5 @@
 -- How check 7 goes over a flat net, by offsets. What it means is in `wiring_laws`.
-use Rattle.std.specs.Prelude.{ℕ, zero, suc, ◌+◌, ◌*◌, Bool, ◌&&◌, List, [], ◌∷◌, ◌++◌, length, get_or, eqb}
+use Rattle.std.specs.Prelude.{ℕ, zero, suc, ◌+◌, ◌*◌, Bool, ◌&&◌, List, [], ◌++◌, length, get_or, eqb}
 use Rattle.words.specs.Choose.{if_lt}
 use Rattle.net_file.specs.Lists.{all}
 use Rattle.fields.specs.Fields.{byte, be16}

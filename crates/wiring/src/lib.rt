@@ -2,7 +2,7 @@
 // wire in a free or node place was seen twice: a wire in a pair once there and once in its pair, any other twice.
 #![tactic(auto)]
 
-ghost use Rattle.std.specs.Prelude.{◌+◌, ◌<◌, ◌≤◌, ◌≡◌, ◌++◌, length};
+ghost use Rattle.std.specs.Prelude.{◌+◌, ◌*◌, ◌<◌, ◌≤◌, ◌≡◌, ◌++◌, length, MatchBool};
 ghost use Rattle.fields.specs.Fields.{byte, be16};
 ghost use Rattle.ends.specs.Ends.{on};
 ghost use Rattle.net_file.specs.Lists.{all};
@@ -11,37 +11,33 @@ ghost use Rattle.ends.specs.Runs.{run};
 ghost use Rattle.wiring.specs.Wiring.{pair_run, nodes_wires, free_wires, paired_wires, net_pairs, net_nodes, twice, alike, net_tallied, net_wired};
 ghost use Rattle.wiring.specs.Fits.{fits};
 
-fn wide(x: u8) -> u16
-    ensures { (result ≡ x) × (result < 256) }
-{
-    x as u16
-}
-
 // A wire that is there: no byte of it is tested for.
 fn wire(s: &[u8], at: usize) -> u16
     requires { at + 2 ≤ length s.now }
     ensures { result ≡ be16 s.now at }
 {
-    256 * wide(s[at]) + wide(s[at + 1])
+    u16::from_be_bytes([s[at], s[at + 1]])
+}
+
+// Whether n of so many bytes each are there from a place on.
+pub fn there(s: &[u8], from: usize, n: u32, size: u8) -> bool
+    ensures { MatchBool result (from + size * n ≤ length s.now) (length s.now < from + size * n) }
+{
+    from <= s.len() && size as usize * n as usize <= s.len() - from
 }
 
 // n wires that stand one after another, where all are there.
 pub fn tally_run(counts: &mut [u32], base: u16, s: &[u8], from: usize, n: u32)
     ensures { counts.new ≡ tally counts.old base (run s.now from n) }
 {
-    if s.len() < from {
-        return;
-    }
-    if (s.len() - from) / 2 < n as usize {
+    if !there(s, from, n, 2) {
         return;
     }
     let mut at = from;
-    let mut k = n;
-    while 0 < k {
+    for _ in 0..n {
         let w = wire(s, at);
         tally::bump(counts, base, w);
         at += 2;
-        k -= 1;
     }
 }
 
@@ -66,7 +62,7 @@ fn tally_node(counts: &mut [u32], base: u16, s: &[u8], e: usize)
         return tally_both(counts, base, s, e);
     }
     tally::bump(counts, base, wire(s, e));
-    let k = wide(s[e + 2]);
+    let k = s[e + 2] as u16;
     tally_run(counts, base, s, e + 3, k as u32)
 }
 
@@ -74,12 +70,10 @@ pub fn tally_nodes(counts: &mut [u32], base: u16, s: &[u8], from: usize, n: u32)
     ensures { counts.new ≡ tally counts.old base (nodes_wires s.now from n) }
 {
     let mut at = from;
-    let mut k = n;
-    while 0 < k {
+    for _ in 0..n {
         let e = ends::name_end(s, at);
         tally_node(counts, base, s, e);
         at = ends::wires_end(s, e);
-        k -= 1;
     }
 }
 
@@ -118,26 +112,26 @@ pub fn tally_net(counts: &mut [u32], base: u16, s: &[u8], at: usize)
     tally_places(counts, base, s, at)
 }
 
-// Whether each of n wires was seen twice.
+// Whether a wire was seen twice.
+pub fn twice(counts: &[u32], base: u16, w: u16) -> bool
+    ensures { result ≡ twice counts.now base w }
+{
+    words::get(counts, w as usize) == base as u32 + 2
+}
+
+// Whether each of n wires was.
 pub fn twice_run(counts: &[u32], base: u16, s: &[u8], from: usize, n: u32) -> bool
     ensures { result ≡ all (twice counts.now base) (run s.now from n) }
 {
-    if s.len() < from {
-        return true;
-    }
-    if (s.len() - from) / 2 < n as usize {
+    if !there(s, from, n, 2) {
         return true;
     }
     let mut at = from;
-    let mut k = n;
-    while 0 < k {
-        let w = wire(s, at);
-        let c = words::get(counts, w as usize);
-        if c != base as u32 + 2 {
+    for _ in 0..n {
+        if !twice(counts, base, wire(s, at)) {
             return false;
         }
         at += 2;
-        k -= 1;
     }
     true
 }
@@ -164,11 +158,10 @@ fn twice_node(counts: &[u32], base: u16, s: &[u8], e: usize) -> bool
     if s.len() - 3 < e {
         return twice_both(counts, base, s, e);
     }
-    let c = words::get(counts, wire(s, e) as usize);
-    if c != base as u32 + 2 {
+    if !twice(counts, base, wire(s, e)) {
         return false;
     }
-    let k = wide(s[e + 2]);
+    let k = s[e + 2] as u16;
     twice_run(counts, base, s, e + 3, k as u32)
 }
 
@@ -176,15 +169,12 @@ pub fn twice_nodes(counts: &[u32], base: u16, s: &[u8], from: usize, n: u32) -> 
     ensures { result ≡ all (twice counts.now base) (nodes_wires s.now from n) }
 {
     let mut at = from;
-    let mut k = n;
-    while 0 < k {
+    for _ in 0..n {
         let e = ends::name_end(s, at);
-        if twice_node(counts, base, s, e) {
-            at = ends::wires_end(s, e);
-            k -= 1;
-        } else {
+        if !twice_node(counts, base, s, e) {
             return false;
         }
+        at = ends::wires_end(s, e);
     }
     true
 }
@@ -200,23 +190,17 @@ fn alike(counts: &[u32], a: u16, b: u16) -> bool
 pub fn alike_run(counts: &[u32], s: &[u8], from: usize, n: u32) -> bool
     ensures { result ≡ all (alike counts.now) (pair_run s.now from n) }
 {
-    if s.len() < from {
-        return true;
-    }
-    if (s.len() - from) / 4 < n as usize {
+    if !there(s, from, n, 4) {
         return true;
     }
     let mut at = from;
-    let mut k = n;
-    while 0 < k {
+    for _ in 0..n {
         let a = fields::be16(s, at);
         let b = fields::be16(s, at + 2);
-        if alike(counts, a, b) {
-            at += 4;
-            k -= 1;
-        } else {
+        if !alike(counts, a, b) {
             return false;
         }
+        at += 4;
     }
     true
 }
@@ -265,4 +249,12 @@ pub fn fits(counts: &[u32], s: &[u8], at: usize) -> bool
 {
     let wires = fields::be32(s, ends::on(s, at, 3));
     wires as usize <= counts.len()
+}
+
+// How far nets are told by the words at hand: all are well, one is not, or some are left that need more words.
+#[derive(Clone, Copy)]
+pub enum Told<R> {
+    Well,
+    Not,
+    Wide(R),
 }

@@ -1,4 +1,4 @@
--- Check 7 over all nets of a file: `netsWired` tells whether each is well wired.
+-- Check 7 over all nets of a file: `nets_wired` tells whether each is well wired.
 use Prim.Native.Nat.{ℕ, zero, suc, ◌+◌, ◌<◌, ◌≤◌}
 use Rattle.std.specs.Prelude.{◌≡◌, refl, Bool, true, false, ◌&&◌, ◌⊎◌, List, [], ◌∷◌, length, drop, replicate}
 use Rattle.std.proofs.Math.Path.{sym, ap}

@@ -1,7 +1,8 @@
 -- How check 7 goes over a net of trees. What it means is in `wiring_tree_laws`.
-use Rattle.std.specs.Prelude.{ℕ, ◌+◌, ◌*◌, ◌<◌, ◌≤◌, ◌≡◌, Bool, true, false, ◌&&◌, List, [], ◌∷◌, ◌++◌, length, get_or}
+use Rattle.std.specs.Prelude.{ℕ, ◌+◌, ◌*◌, ◌<◌, ◌≤◌, ◌≡◌, Bool, true, false, ◌&&◌, List, [], ◌∷◌, ◌++◌, length}
+use Rattle.std.proofs.Math.Bool.{and-true}
 use Rattle.std.proofs.Math.Path.{refl}
-use Rattle.std.proofs.Common.{sym, ap, ◌∙◌, eq-eqb, ne_eqb}
+use Rattle.std.proofs.Common.{sym, ap, ◌∙◌}
 use Rattle.net_file.specs.Lists.{all, concat_map}
 use Rattle.fields.specs.Fields.{byte, be16}
 use Rattle.tally.specs.Tally.{tally, bump, tally_append, tally_length}
@@ -87,14 +88,8 @@ module _ (s : List ℕ) (at b : ℕ) (eb : b ≡ byte s at) (counts : List ℕ) 
   pub twice_node : (b ≡ 0 → ⊥) → true ≡ all (twice counts base) (wire_at s at)
   twice_node z = rw (wire_none s at b eb z)
 
-  module _ (w c : ℕ) (z : b ≡ 0) (ew : w ≡ be16 s (at + 1)) (ec : c ≡ get_or counts w 0) where
-    pub twice_yes : c ≡ base + 2 → true ≡ all (twice counts base) (wire_at s at)
-    unfolding twice
-    twice_yes e = rw (wire_is s at b eb z) (ap (λ t. t && true) (sym (eq-eqb _ _ (rw ew at (sym ec) ∙ e))))
-
-    pub twice_no : (c ≡ base + 2 → ⊥) → false ≡ all (twice counts base) (wire_at s at)
-    unfolding twice
-    twice_no e = rw (wire_is s at b eb z) (ap (λ t. t && true) (sym (ne_eqb _ _ (λ y. e (rw ew at ec ∙ y)))))
+  pub twice_wire : (w : ℕ) (t : Bool) → b ≡ 0 → w ≡ be16 s (at + 1) → t ≡ twice counts base w → t ≡ all (twice counts base) (wire_at s at)
+  twice_wire w t z ew et = rw (wire_is s at b eb z) (rw ew at et ∙ sym (and-true (twice counts base (be16 s (at + 1)))))
 
 -- a check that is under way: what is still to come decides
 pub record Decides (s : List ℕ) (from k : ℕ) (counts : List ℕ) (base : ℕ) (c : Scan) : Type 0 where

@@ -55,14 +55,11 @@ fn twice_tree(counts: &[u32], base: u16, s: &[u8], at: usize) -> bool
     requires { at < length s.now }
     ensures { result ≡ all (twice counts.now base) (wire_at s.now at) }
 {
-    if fields::byte(s, at) == 0 {
-        let w = fields::be16(s, at + 1);
-        let c = words::get(counts, w as usize);
-        if c != base as u32 + 2 {
-            return false;
-        }
+    if fields::byte(s, at) != 0 {
+        return true;
     }
-    true
+    let w = fields::be16(s, at + 1);
+    wiring::twice(counts, base, w)
 }
 
 // Whether each wire of k trees was.
@@ -73,11 +70,10 @@ pub fn twice_trees(counts: &[u32], base: u16, s: &[u8], from: usize, k: usize) -
     while 0 < c.left {
         let at = c.at;
         let left = c.left;
-        if twice_tree(counts, base, s, at) {
-            c = scan_tree::step(s, at, left);
-        } else {
+        if !twice_tree(counts, base, s, at) {
             return false;
         }
+        c = scan_tree::step(s, at, left);
     }
     true
 }

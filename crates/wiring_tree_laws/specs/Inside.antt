@@ -1,4 +1,4 @@
--- Every wire of a net that is read is below its wire counter, and that is at most 65,536 (`net-reads`).
+-- Every wire of a net that is read is below its wire counter, and that is at most 65,536 (`net_reads`).
 use Prim.Native.Nat.{ℕ, zero, suc, ◌≤◌}
 use Rattle.std.specs.Prelude.{◌≡◌}
 use Rattle.std.proofs.Common.{subst, arith}

@@ -1,4 +1,4 @@
--- Check 7 over all nets of trees of a file: `netsWired` tells whether each is well wired (`nets-wired`).
+-- Check 7 over all nets of trees of a file: `nets_wired` tells whether each is well wired (`nets_wired_lem`).
 use Prim.Native.Nat.{ℕ, zero, suc, ◌+◌, ◌<◌, ◌≤◌}
 use Rattle.std.specs.Prelude.{◌≡◌, Bool, true, false, ◌&&◌, ◌⊎◌, List, ◌∷◌, length, drop, replicate}
 use Rattle.std.proofs.Common.{sym, ap, ◌∙◌, arith}

@@ -1,5 +1,5 @@
--- A net of trees that is read is well wired exactly where the check says so (`tree-wired`), and the tally is then ready for the
--- next net, above a base that is 4 higher (`tree-low`).
+-- A net of trees that is read is well wired exactly where the check says so (`tree_wired_lem`), and the tally is then ready for the
+-- next net, above a base that is 4 higher (`tree_low`).
 use Rattle.std.specs.Prelude.{ℕ, ◌+◌, ◌-◌, ◌≤◌, min, ◌≡◌, refl, Bool, ◌&&◌, List, [], ◌∷◌, length, drop, get_or, eqb}
 use Rattle.std.proofs.Math.Path.{sym}
 use Rattle.std.proofs.Common.{◌∙◌}

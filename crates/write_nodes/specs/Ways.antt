@@ -1,7 +1,7 @@
 -- What a function of the crate leaves on each way out, and one turn of each loop, in the words of its tests and calls.
-use Rattle.std.specs.Prelude.{◌≡◌, ℕ, zero, suc, ◌-◌, ◌%◌, ◌<◌, ◌≤◌, List, ◌≢◌, refl}
+use Rattle.std.specs.Prelude.{◌≡◌, ℕ, zero, suc, ◌-◌, ◌%◌, ◌<◌, ◌≤◌, Bool, true, false, eqb, List, ◌≢◌, refl}
 use Rattle.std.proofs.Common.{not-suc-le-zero, sub-one}
-use Rattle.words.specs.Choose.{eq_yes, eq_no, lt_yes, lt_no}
+use Rattle.words.specs.Choose.{if_eq, eq_yes, eq_no, lt_yes, lt_no, pick_true, pick_false}
 use Rattle.net_file.specs.Write.{be}
 use Rattle.store.specs.Store.{store}
 use Rattle.layout.specs.Layout.{next, net_word_words, node_word, set_node_word, across, set_across, principal, entry_word}
@@ -54,19 +54,19 @@ ports_written ws w1 w out o1 o2 o n k p a q pen first r ek ep eq ef e1 eo1 eo2 e
     rw (← ep, ← ek, ← ef, ← e1, ← eo1, ← eo2, ← ea, ← eq) (whole (write_wires w1 o2 q k (record { at = a; wire = first.wire })) er ew eo)
 
 module _ (ws file out : List ℕ) (page : Page) (pen r : Pen) where
-  pub live_free : (w1 w o : List ℕ) (n f : ℕ) → w1 ≡ set_node_word ws n 0 0 → f ≡ net_word_words w1 page.net.0 1 → n ≡ f
+  pub live_free : (w1 w o : List ℕ) (n f : ℕ) (s : Bool) → w1 ≡ set_node_word ws n 0 0 → f ≡ net_word_words w1 page.net.0 1 → s ≡ eqb n f → s ≡ true
       → r ≡ (write_free w1 out n page.free pen).is → w ≡ (write_free w1 out n page.free pen).ws → o ≡ (write_free w1 out n page.free pen).out
       → record { is = r; ws = w; out = o } ≡ write_live ws file out page n pen
-  unfolding write_live
-  live_free w1 w o n f e1 ef z er ew eo =
-      rw (← e1) (eq_yes _ _ _ _ (rw (← ef) z) (whole (write_free w1 out n page.free pen) er ew eo))
+  unfolding write_live if_eq
+  live_free w1 w o n f s e1 ef es z er ew eo =
+      rw (← e1) (pick_true _ _ _ (rw (← ef, ← es) z) (whole (write_free w1 out n page.free pen) er ew eo))
 
-  pub live_node : (w1 w o : List ℕ) (n f : ℕ) → w1 ≡ set_node_word ws n 0 0 → f ≡ net_word_words w1 page.net.0 1 → (n ≢ f)
+  pub live_node : (w1 w o : List ℕ) (n f : ℕ) (s : Bool) → w1 ≡ set_node_word ws n 0 0 → f ≡ net_word_words w1 page.net.0 1 → s ≡ eqb n f → s ≡ false
       → r ≡ (write_node_words w1 file out n pen).is → w ≡ (write_node_words w1 file out n pen).ws → o ≡ (write_node_words w1 file out n pen).out
       → record { is = r; ws = w; out = o } ≡ write_live ws file out page n pen
-  unfolding write_live
-  live_node w1 w o n f e1 ef z er ew eo =
-      rw (← e1) (eq_no _ _ _ _ (λ e. z (rw ef e)) (whole (write_node_words w1 file out n pen) er ew eo))
+  unfolding write_live if_eq
+  live_node w1 w o n f s e1 ef es z er ew eo =
+      rw (← e1) (pick_false _ _ _ (rw (← ef, ← es) z) (whole (write_node_words w1 file out n pen) er ew eo))
 
   pub entry_live : (w o : List ℕ) (n t : ℕ) → t ≡ node_word ws n 0 → t ≡ page.net.0 → r ≡ (write_live ws file out page n pen).is
       → w ≡ (write_live ws file out page n pen).ws → o ≡ (write_live ws file out page n pen).out

@@ -73,12 +73,10 @@ fn write_wires(ws: &mut [u32], out: &mut [u8], p: Port, k: u32, start: Pen) -> P
     ensures { (result ≡ (write_wires ws.old out.old p.0 k start).is) × (ws.new ≡ (write_wires ws.old out.old p.0 k start).ws) × (out.new ≡ (write_wires ws.old out.old p.0 k start).out) }
 {
     let mut port = p;
-    let mut left = k;
     let mut pen = start;
-    while 0 < left {
+    for _ in 0..k {
         pen = write_wire(ws, out, port, pen);
         port = layout::next_port(port);
-        left -= 1;
     }
     pen
 }
@@ -169,7 +167,7 @@ fn write_live(ws: &mut [u32], file: &[u8], out: &mut [u8], page: Page, n: NodeId
     ensures { (result ≡ (write_live ws.old file.now out.old page n.0 pen).is) × (ws.new ≡ (write_live ws.old file.now out.old page n.0 pen).ws) × (out.new ≡ (write_live ws.old file.now out.old page n.0 pen).out) }
 {
     layout::set_node_word(ws, n, 0, 0);
-    if n.0 == layout::net_word(ws, page.net, 1) {
+    if n == NodeId(layout::net_word(ws, page.net, 1)) {
         return write_free(ws, out, n, page.free, pen);
     }
     write_node(ws, file, out, n, pen)
@@ -189,14 +187,13 @@ fn write_entry(ws: &mut [u32], file: &[u8], out: &mut [u8], page: Page, n: NodeI
 pub fn write_list(ws: &mut [u32], file: &[u8], out: &mut [u8], page: Page, start: Pen) -> Pen
     ensures { (result ≡ (write_list ws.old file.now out.old page start).is) × (ws.new ≡ (write_list ws.old file.now out.old page start).ws) × (out.new ≡ (write_list ws.old file.now out.old page start).out) }
 {
-    let mut left = layout::net_word(ws, page.net, 4);
+    let count = layout::net_word(ws, page.net, 4);
     let mut c = layout::net_word(ws, page.net, 2);
     let mut pen = start;
-    while 0 < left {
+    for _ in 0..count {
         let n = NodeId(layout::entry_word(ws, c, 0));
         pen = write_entry(ws, file, out, page, n, pen);
         c = layout::entry_word(ws, c, 1);
-        left -= 1;
     }
     pen
 }

@@ -1,5 +1,5 @@
 -- Each part's size, and that its fields, written one right after another, are what net_file writes for it. A premise is what one call or test of the code gives.
-use Rattle.std.specs.Prelude.{ℕ, suc, ◌+◌, ◌*◌, ◌-◌, ◌/◌, ◌%◌, ◌≤◌, ◌<◌, Bool, ◌≡◌, refl, List, [], ◌∷◌, ◌++◌, length, get_or, take, drop}
+use Rattle.std.specs.Prelude.{Option, ℕ, suc, ◌+◌, ◌*◌, ◌-◌, ◌/◌, ◌%◌, ◌≤◌, ◌<◌, Bool, ◌≡◌, refl, List, [], ◌∷◌, ◌++◌, length, get_or, take, drop}
 use Rattle.std.proofs.Common.{◌∙◌, arith, length-append, length-take, Fits, get_or-drop, get_or-take}
 use Rattle.std.proofs.Math.Decide.{dec_lt}
 use Rattle.std.proofs.Math.ListN.{get_or-eq_default}
@@ -7,7 +7,6 @@ use Rattle.std.specs.Int.{w8}
 use Rattle.net_file.specs.Lists.{bit, concat_map}
 use Rattle.net_file.specs.Values.{graft, annihilate, eta}
 use Rattle.net_file.specs.Write.{be, counted, write_path, write_name, write_list, write_rule}
-use Rattle.put.specs.declared.Put.{Put}
 use Rattle.put.specs.Written.{Written, WrittenIf, Short, part}
 use Rattle.put.specs.Laws.{Size, both, begin, then, written_if}
 use Rattle.put.specs.Fields.{size_be, size_part, size_counted}
@@ -21,7 +20,7 @@ size_name path payload children =
     let s = both (both (size_be 2 path) (size_be 8 payload)) (size_counted children) in
     record { is = omega arith }
 
-pub name_parts : (out o p w children : List ℕ) (at path payload space : ℕ) (q q' r : Put) → Short children → space ≡ length out - at
+pub name_parts : (out o p w children : List ℕ) (at path payload space : ℕ) (q q' r : Option ℕ) → Short children → space ≡ length out - at
     → 11 + 2 * length children ≤ space → Written (be 2 path) at out o q → Written (be 8 payload) (at + 2) o p q'
     → WrittenIf (Short children) (counted 1 (be 2) children) (at + 10) p w r → WrittenIf (Short children) (write_name (name path payload children)) at out w r
 unfolding write_name
@@ -35,7 +34,7 @@ pub size_graft : (path : ℕ) (lazy : Bool) → Size (write_rule (graft path laz
 unfolding write_rule
 size_graft path lazy = both (both (size_be 1 1) (size_be 2 path)) (size_be 1 (bit lazy))
 
-pub graft_parts : (out o p w : List ℕ) (at path space : ℕ) (lazy : Bool) (q q' r : Put) → space ≡ length out - at → 4 ≤ space
+pub graft_parts : (out o p w : List ℕ) (at path space : ℕ) (lazy : Bool) (q q' r : Option ℕ) → space ≡ length out - at → 4 ≤ space
     → Written (be 1 1) at out o q → Written (be 2 path) (at + 1) o p q' → Written (be 1 (bit lazy)) (at + 3) p w r → Written (write_rule (graft path lazy)) at out w r
 unfolding write_rule
 graft_parts out o p w at path space lazy q q' r e room x y z =
@@ -50,7 +49,7 @@ pub size_annihilate : (ps : List ℕ) → Size (write_rule (annihilate ps)) (2 +
 unfolding write_rule
 size_annihilate ps = let s = both (size_be 1 2) (size_list ps) in record { is = omega arith }
 
-pub annihilate_parts : (out o w ps : List ℕ) (at space : ℕ) (q r : Put) → Short ps → space ≡ length out - at → 2 + 2 * length ps ≤ space
+pub annihilate_parts : (out o w ps : List ℕ) (at space : ℕ) (q r : Option ℕ) → Short ps → space ≡ length out - at → 2 + 2 * length ps ≤ space
     → Written (be 1 2) at out o q → WrittenIf (Short ps) (counted 1 (be 2) ps) (at + 1) o w r → WrittenIf (Short ps) (write_rule (annihilate ps)) at out w r
 unfolding write_rule write_list
 annihilate_parts out o w ps at space q r short e room x y = written_if short (then (begin (size_be 1 2) x) (size_list ps) refl (omega arith) (y.yes short)).written
@@ -58,7 +57,7 @@ annihilate_parts out o w ps at space q r short e room x y = written_if short (th
 pub size_lists : (tag : ℕ) (xs ys : List ℕ) → Size (be 1 tag ++ write_list xs ++ write_list ys) (3 + 2 * length xs + 2 * length ys)
 size_lists tag xs ys = let s = both (both (size_be 1 tag) (size_list xs)) (size_list ys) in record { is = omega arith }
 
-pub lists_parts : (out o p w xs ys : List ℕ) (at tag space : ℕ) (q q' r : Put) → Short xs → Short ys → space ≡ length out - at
+pub lists_parts : (out o p w xs ys : List ℕ) (at tag space : ℕ) (q q' r : Option ℕ) → Short xs → Short ys → space ≡ length out - at
     → 2 + 2 * length xs + 1 + 2 * length ys ≤ space → Written (be 1 tag) at out o q
     → WrittenIf (Short xs) (counted 1 (be 2) xs) (at + 1) o p q' → WrittenIf (Short ys) (counted 1 (be 2) ys) (at + (2 + 2 * length xs)) p w r
     → WrittenIf (Short xs × Short ys) (be 1 tag ++ write_list xs ++ write_list ys) at out w r
@@ -71,7 +70,7 @@ pub size_eta : (cs vs ns : List ℕ) → Size (write_rule (eta cs vs ns)) (4 + 2
 unfolding write_rule
 size_eta cs vs ns = let s = both (size_lists 5 cs vs) (size_list ns) in record { is = omega arith }
 
-pub eta_parts : (out o w cs vs ns : List ℕ) (at space : ℕ) (q r : Put) → Short cs → Short vs → Short ns → space ≡ length out - at
+pub eta_parts : (out o w cs vs ns : List ℕ) (at space : ℕ) (q r : Option ℕ) → Short cs → Short vs → Short ns → space ≡ length out - at
     → 3 + 2 * length cs + 2 * length vs + 1 + 2 * length ns ≤ space → WrittenIf (Short cs × Short vs) (be 1 5 ++ write_list cs ++ write_list vs) at out o q
     → WrittenIf (Short ns) (counted 1 (be 2) ns) (at + (3 + 2 * length cs + 2 * length vs)) o w r
     → WrittenIf (Short cs × Short vs × Short ns) (write_rule (eta cs vs ns)) at out w r
@@ -102,7 +101,7 @@ pub size_path : (s : List ℕ) (from n : ℕ) → from + n ≤ length s → Size
 unfolding write_path counted
 size_path s from n h = let p = part s from n in let l = (size_part s from n h).is in both (size_be 1 (length p)) (record { is = bytes_length p ∙ l })
 
-pub path_parts : (out o w s : List ℕ) (at from n space : ℕ) (q r : Put) → ((i : ℕ) → Fits w8 (get_or s i 0)) → from ≤ length s → n ≤ length s - from → space ≡ length out - at → 1 + n ≤ space
+pub path_parts : (out o w s : List ℕ) (at from n space : ℕ) (q r : Option ℕ) → ((i : ℕ) → Fits w8 (get_or s i 0)) → from ≤ length s → n ≤ length s - from → space ≡ length out - at → 1 + n ≤ space
     → Written (be 1 n) at out o q → WrittenIf (from + n ≤ length s) (part s from n) (at + 1) o w r → WrittenIf (from + n ≤ length s) (write_path (part s from n)) at out w r
 unfolding write_path counted
 path_parts out o w s at from n space q r bytes h h' e room x y =

@@ -1,5 +1,5 @@
-use Rattle.clear.specs.Zeroed.{zeroed_all}
+use Rattle.clear.proofs.Filled.{filled_within}
 use Rattle.clear.proofs.clear_words.Goals as goal
 
-pub returns-else-k-n : goal.returns-else-k-n
-returns-else-k-n c = search zeroed_all
+pub returns : goal.returns
+returns c = filled_within _ _ _ _ c.min-n.ensures (c.fill.ensures.after (λ y e. e))

@@ -1,22 +1,19 @@
-use Rattle.std.proofs.Common.{◌≡◌, arith}
-use Rattle.eta.specs.Eta.{all_straight}
+use Rattle.std.proofs.Common.{◌-◌, ◌+◌, ◌<◌, ◌≤◌, ◌≡◌, arith}
 use Rattle.eta.specs.Ways.{all_straight_more, all_straight_not, all_straight_done}
 use Rattle.eta.proofs.all_straight.Goals as goal
 
-pub loop-left-init : goal.loop-left-init
-loop-left-init c = cc
+pub loop-preserved : goal.loop-preserved
+loop-preserved c =
+    let more : 0 < c.args.k - c.loop.counter = omega arith in
+    let next : c.args.k - (c.loop.counter + 1) ≡ c.args.k - c.loop.counter - 1 = omega arith in
+    rw next (search all_straight_more)
 
-pub overflow_sub-left : goal.overflow_sub-left
-overflow_sub-left c = omega arith
-
-pub loop-left-smaller : goal.loop-left-smaller
-loop-left-smaller c = omega arith
-
-pub loop-left-preserved : goal.loop-left-preserved
-loop-left-preserved c = search all_straight_more
-
-pub returns-else-straight : goal.returns-else-straight
-returns-else-straight c = search all_straight_not
+pub returns-then-not-straight : goal.returns-then-not-straight
+returns-then-not-straight c =
+    let more : 0 < c.args.k - c.loop.counter = omega arith in
+    search all_straight_not
 
 pub returns : goal.returns
-returns c = search all_straight_done
+returns c =
+    let done : c.args.k - c.loop.counter ≤ 0 = omega arith in
+    search all_straight_done

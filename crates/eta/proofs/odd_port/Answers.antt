@@ -1,22 +1,19 @@
-use Rattle.std.proofs.Common.{◌≡◌, arith}
-use Rattle.eta.specs.Eta.{odd_port}
+use Rattle.std.proofs.Common.{◌-◌, ◌+◌, ◌<◌, ◌≤◌, ◌≡◌, arith}
 use Rattle.eta.specs.Ways.{odd_more, odd_here, odd_none}
 use Rattle.eta.proofs.odd_port.Goals as goal
 
-pub loop-left-init : goal.loop-left-init
-loop-left-init c = cc
+pub loop-preserved : goal.loop-preserved
+loop-preserved c =
+    let more : 0 < c.args.k - c.loop.counter = omega arith in
+    let next : c.args.k - (c.loop.counter + 1) ≡ c.args.k - c.loop.counter - 1 = omega arith in
+    rw next (search odd_more)
 
-pub overflow_sub-left : goal.overflow_sub-left
-overflow_sub-left c = omega arith
-
-pub loop-left-smaller : goal.loop-left-smaller
-loop-left-smaller c = omega arith
-
-pub loop-left-preserved : goal.loop-left-preserved
-loop-left-preserved c = search odd_more
-
-pub returns-else-is_principal : goal.returns-else-is_principal
-returns-else-is_principal c = search odd_here
+pub returns-then-not-is_principal : goal.returns-then-not-is_principal
+returns-then-not-is_principal c =
+    let more : 0 < c.args.k - c.loop.counter = omega arith in
+    search odd_here
 
 pub returns : goal.returns
-returns c = search odd_none
+returns c =
+    let done : c.args.k - c.loop.counter ≤ 0 = omega arith in
+    search odd_none

@@ -1,8 +1,8 @@
 use Rattle.eta.specs.Ways.{straight_wire, straight_nils}
 use Rattle.eta.proofs.straight.Goals as goal
 
-pub returns-then-across-q : goal.returns-then-across-q
-returns-then-across-q c = search straight_wire
+pub returns-then-eq : goal.returns-then-eq
+returns-then-eq c = search straight_wire
 
 pub returns : goal.returns
 returns c = search straight_nils

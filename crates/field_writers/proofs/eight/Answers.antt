@@ -1,5 +1,7 @@
-use Rattle.field_writers.specs.Fields.{eight_is}
+use Rattle.std.proofs.Common.{◌∙◌}
+use Rattle.put.specs.Fields.{be_bytes}
+use Rattle.text_writers.specs.Wrote.{wrote_as}
 use Rattle.field_writers.proofs.eight.Goals as goal
 
 pub returns : goal.returns
-returns c = search eight_is
+returns c = wrote_as (c.to_be_bytes.ensures ∙ be_bytes 8 c.args.v) c.word.ensures

@@ -1,5 +1,7 @@
-use Rattle.field_writers.specs.Fields.{four_is}
+use Rattle.std.proofs.Common.{◌∙◌}
+use Rattle.put.specs.Fields.{be_bytes}
+use Rattle.text_writers.specs.Wrote.{wrote_as}
 use Rattle.field_writers.proofs.four.Goals as goal
 
 pub returns : goal.returns
-returns c = search four_is
+returns c = wrote_as (c.to_be_bytes.ensures ∙ be_bytes 4 c.args.v) c.word.ensures

@@ -1,5 +1,4 @@
 use Rattle.fields.specs.Fields.{be16_past, be16_end}
-use native.Mathlib.Omega.{arith}
 use Rattle.fields.proofs.be16.Goals as goal
 
 pub returns-then-n-at : goal.returns-then-n-at

@@ -1,6 +1,5 @@
 use Rattle.fields.specs.Fields.{be32_halves}
 use Rattle.fields.specs.Fields.{be32_past, be32_end}
-use native.Mathlib.Omega.{arith}
 use Rattle.fields.proofs.be32_short.Goals as goal
 
 pub returns-then-n-at : goal.returns-then-n-at

@@ -1,5 +1,4 @@
 use Rattle.fields.specs.Fields.{be64_past, be64_end}
-use native.Mathlib.Omega.{arith}
 use Rattle.fields.proofs.be64.Goals as goal
 
 pub returns-then-n-at : goal.returns-then-n-at

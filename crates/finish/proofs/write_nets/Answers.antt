@@ -1,26 +1,16 @@
-use Rattle.std.proofs.Common.{◌≡◌, arith, rules}
+use Rattle.std.proofs.Common.{◌-◌, ◌+◌, ◌<◌, ◌≤◌, ◌≡◌, arith}
 use Rattle.write_nodes.specs.Wrote.{three}
 use Rattle.finish.specs.Ways.{nets_more, nets_done}
 use Rattle.finish.specs.Finish.{write_nets}
 use Rattle.finish.proofs.write_nets.Goals as goal
 
-pub loop-left-init : goal.loop-left-init
-loop-left-init c = (cc, search rules, search rules)
-
-pub overflow_sub-left : goal.overflow_sub-left
-overflow_sub-left c = omega arith
-
-pub loop-left-smaller : goal.loop-left-smaller
-loop-left-smaller c = omega arith
-
-pub loop-left-preserved : goal.loop-left-preserved
-loop-left-preserved c = (search nets_more, omega arith, omega arith)
-
-pub shape_of-ws : goal.shape_of-ws
-shape_of-ws c = omega arith
-
-pub shape_of-out : goal.shape_of-out
-shape_of-out c = omega arith
+pub loop-i-preserved : goal.loop-i-preserved
+loop-i-preserved c =
+    let more : 0 < c.args.count - c.loop-i.i = omega arith in
+    let next : c.args.count - (c.loop-i.i + 1) ≡ c.args.count - c.loop-i.i - 1 = omega arith in
+    (rw next (search nets_more), omega arith, omega arith)
 
 pub returns : goal.returns
-returns c = three {x = write_nets _ _ _ _ _ _} (search nets_done)
+returns c =
+    let done : c.args.count - c.loop-i.i ≤ 0 = omega arith in
+    three {x = write_nets _ _ _ _ _ _} (search nets_done)

@@ -2,7 +2,6 @@ use Rattle.std.proofs.Common.{◌≡◌, length, ◌-◌, ◌≤◌}
 use Rattle.wire_blocks.specs.Blocks.{looked}
 use Rattle.wire_links.specs.Table.{extent}
 use Rattle.flat_nets.specs.Flat.{empty_over}
-use Rattle.flat_nets.specs.Ways.{extent_low, empty_more, empty_done}
 use Rattle.flat_nets.proofs.empty_wires.Given as goal
 
 abbrev pub invariant-loop-w : goal.invariant-loop-w

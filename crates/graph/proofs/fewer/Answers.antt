@@ -1,5 +1,4 @@
 use Rattle.graph.specs.Graph.{fewer}
-use Rattle.std.proofs.Common.{rules}
 use Rattle.graph.proofs.fewer.Goals as goal
 
 pub returns : goal.returns

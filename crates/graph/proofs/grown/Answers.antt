@@ -1,4 +1,4 @@
-use Rattle.std.proofs.Common.{arith, rules}
+use Rattle.std.proofs.Common.{arith}
 use Rattle.words.specs.Choose.{eq_yes, eq_no}
 use Rattle.graph.specs.Graph.{grown}
 use Rattle.graph.proofs.grown.Goals as goal

@@ -1,22 +1,14 @@
-use Rattle.std.proofs.Common.{◌≡◌, length, arith, rules}
+use Rattle.std.proofs.Common.{◌-◌, ◌+◌, ◌<◌, ◌≤◌, ◌≡◌, arith}
 use Rattle.graph.specs.Ways.{holes_more, holes_done}
-use Rattle.graph.specs.Graph.{holes}
 use Rattle.graph.proofs.holes.Goals as goal
 
-pub loop-left-init : goal.loop-left-init
-loop-left-init c = (cc, search rules)
-
-pub overflow_sub-left : goal.overflow_sub-left
-overflow_sub-left c = omega arith
-
-pub loop-left-smaller : goal.loop-left-smaller
-loop-left-smaller c = omega arith
-
-pub loop-left-preserved : goal.loop-left-preserved
-loop-left-preserved c = (search holes_more, omega arith)
-
-pub shape_of-ws : goal.shape_of-ws
-shape_of-ws c = omega arith
+pub loop-preserved : goal.loop-preserved
+loop-preserved c =
+    let more : 0 < c.args.k - c.loop.counter = omega arith in
+    let next : c.args.k - (c.loop.counter + 1) ≡ c.args.k - c.loop.counter - 1 = omega arith in
+    (rw next (search holes_more), omega arith)
 
 pub returns : goal.returns
-returns c = search holes_done
+returns c =
+    let done : c.args.k - c.loop.counter ≤ 0 = omega arith in
+    search holes_done

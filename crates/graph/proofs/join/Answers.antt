@@ -1,5 +1,4 @@
 use Rattle.graph.specs.Graph.{join}
-use Rattle.std.proofs.Common.{rules}
 use Rattle.graph.proofs.join.Goals as goal
 
 pub returns : goal.returns

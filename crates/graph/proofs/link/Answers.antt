@@ -1,12 +1,11 @@
-use Rattle.std.proofs.Common.{arith, rules}
-use Rattle.words.specs.Choose.{eq_yes, eq_no}
+use Rattle.words.specs.Choose.{if_eq, pick_true, pick_false}
 use Rattle.graph.specs.Graph.{link}
 use Rattle.graph.proofs.link.Goals as goal
 
-pub returns-then-x-b : goal.returns-then-x-b
-unfolding link
-returns-then-x-b c = eq_yes _ _ _ _ (omega arith) (cc)
+pub returns-then-eq : goal.returns-then-eq
+unfolding link if_eq
+returns-then-eq c = pick_true _ _ _ (cc) (cc)
 
 pub returns : goal.returns
-unfolding link
-returns c = eq_no _ _ _ _ (omega arith) (cc)
+unfolding link if_eq
+returns c = pick_false _ _ _ (cc) (cc)

@@ -1,5 +1,4 @@
 use Rattle.graph.specs.Ways.{mark_clean, mark_marked}
-use Rattle.std.proofs.Common.{rules}
 use Rattle.graph.proofs.mark_slot.Goals as goal
 
 pub returns-then-node_word-eq0 : goal.returns-then-node_word-eq0

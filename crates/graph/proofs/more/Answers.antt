@@ -1,5 +1,4 @@
 use Rattle.graph.specs.Graph.{more}
-use Rattle.std.proofs.Common.{rules}
 use Rattle.graph.proofs.more.Goals as goal
 
 pub returns : goal.returns

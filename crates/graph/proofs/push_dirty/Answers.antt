@@ -1,5 +1,4 @@
 use Rattle.graph.specs.Ways.{push_full, push_room}
-use Rattle.std.proofs.Common.{rules}
 use Rattle.graph.proofs.push_dirty.Goals as goal
 
 pub returns-then-k-c : goal.returns-then-k-c

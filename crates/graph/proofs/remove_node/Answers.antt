@@ -1,5 +1,4 @@
 use Rattle.graph.specs.Graph.{remove_node}
-use Rattle.std.proofs.Common.{rules}
 use Rattle.graph.proofs.remove_node.Goals as goal
 
 pub returns : goal.returns

@@ -1,8 +1,8 @@
-use Rattle.image.specs.Ways.{file_accepted, file_refused}
+use Rattle.std.proofs.Common.{ap, ◌∙◌}
+use Rattle.std.specs.Prelude.{is_ok}
+use Rattle.image.specs.Image.{file_holds}
 use Rattle.image.proofs.file_holds.Goals as goal
 
-pub returns-in-Accepted : goal.returns-in-Accepted
-returns-in-Accepted c = search file_accepted
-
-pub returns-in-Refused : goal.returns-in-Refused
-returns-in-Refused c = search file_refused
+pub returns : goal.returns
+unfolding file_holds
+returns c = c.is_ok.ensures.value ∙ ap is_ok c.check_flat.ensures.is

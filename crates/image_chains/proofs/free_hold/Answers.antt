@@ -1,35 +1,25 @@
-use Rattle.std.proofs.Common.{arith, ◌≡◌, rules}
-use Rattle.image_chains.specs.Chains as Spec
+use Rattle.std.proofs.Common.{arith, ◌≡◌, ◌-◌, ◌+◌, ◌<◌, ◌≤◌}
 use Rattle.marks.specs.Walks.{chain, chain_more, chain_no, chain_ends, chain_done}
 use Rattle.words.specs.Left.{left}
 use Rattle.image_chains.proofs.free_hold.Goals as goal
 
-pub loop-left-init : goal.loop-left-init
-loop-left-init c = (cc, search rules)
-
-pub shape_of-marks-then-c-eq0 : goal.shape_of-marks-then-c-eq0
-shape_of-marks-then-c-eq0 c = omega arith
-
 pub returns-then-c-eq0 : goal.returns-then-c-eq0
-returns-then-c-eq0 c = left {x = chain _ _ _ _ _ _} (search chain_ends)
+returns-then-c-eq0 c =
+    let more : 0 < c.args.k - c.loop.counter = omega arith in
+    left {x = chain _ _ _ _ _ _} (search chain_ends)
 
-pub overflow_sub-left : goal.overflow_sub-left
-overflow_sub-left c = omega arith
+pub loop-preserved : goal.loop-preserved
+loop-preserved c =
+    let more : 0 < c.args.k - c.loop.counter = omega arith in
+    let next : c.args.k - (c.loop.counter + 1) ≡ c.args.k - c.loop.counter - 1 = omega arith in
+    (rw next (search chain_more), omega arith)
 
-pub loop-left-smaller : goal.loop-left-smaller
-loop-left-smaller c = omega arith
-
-pub loop-left-preserved : goal.loop-left-preserved
-loop-left-preserved c = (search chain_more, omega arith)
-
-pub shape_of-marks-else-is_free : goal.shape_of-marks-else-is_free
-shape_of-marks-else-is_free c = omega arith
-
-pub returns-else-is_free : goal.returns-else-is_free
-returns-else-is_free c = left {x = chain _ _ _ _ _ _} (search chain_no)
-
-pub shape_of-marks : goal.shape_of-marks
-shape_of-marks c = omega arith
+pub returns-then-not-is_free : goal.returns-then-not-is_free
+returns-then-not-is_free c =
+    let more : 0 < c.args.k - c.loop.counter = omega arith in
+    left {x = chain _ _ _ _ _ _} (search chain_no)
 
 pub returns : goal.returns
-returns c = left {x = chain _ _ _ _ _ _} (search chain_done)
+returns c =
+    let done : c.args.k - c.loop.counter ≤ 0 = omega arith in
+    left {x = chain _ _ _ _ _ _} (search chain_done)

@@ -1,23 +1,8 @@
-use Rattle.std.proofs.Common.{arith, ◌≡◌, rules}
+use Rattle.std.proofs.Common.{arith, rules}
+use Rattle.marks.specs.Ranges.{each_below}
 use Rattle.image_dirty.specs.Dirty.{entry_holds, entries_hold}
-use Rattle.marks.specs.Tests.{each, each_more, each_no, each_done}
 use Rattle.image_dirty.proofs.entries_hold.Goals as goal
 
-pub loop-left-init : goal.loop-left-init
-unfolding entries_hold
-loop-left-init c = search rules
-
-pub overflow_sub-left : goal.overflow_sub-left
-overflow_sub-left c = omega arith
-
-pub loop-left-smaller : goal.loop-left-smaller
-loop-left-smaller c = omega arith
-
-pub loop-left-preserved : goal.loop-left-preserved
-loop-left-preserved c = search each_more
-
-pub returns-else-entry_holds : goal.returns-else-entry_holds
-returns-else-entry_holds c = search each_no
-
 pub returns : goal.returns
-returns c = search each_done
+unfolding entries_hold
+returns c = each_below (entry_holds c.args.ws.now) c.args.k c.all.ensures.ran (omega arith) (λ x b q k. search rules)

@@ -1,10 +1,7 @@
 use Rattle.image_lists.specs.Lists.{list_holds}
-use Rattle.image_lists.specs.Ways.{list_walked, list_no}
+use Rattle.image_lists.specs.Ways.{list_walked}
 use Rattle.words.specs.Left.{left}
 use Rattle.image_lists.proofs.list_holds.Goals as goal
 
-pub returns-then-starts : goal.returns-then-starts
-returns-then-starts c = left {x = list_holds _ _ _} (search list_walked)
-
 pub returns : goal.returns
-returns c = left {x = list_holds _ _ _} (search list_no)
+returns c = left {x = list_holds _ _ _} (search list_walked)

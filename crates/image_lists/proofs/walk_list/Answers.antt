@@ -1,23 +1,16 @@
-use Rattle.std.proofs.Common.{arith, ◌≡◌, rules}
+use Rattle.std.proofs.Common.{arith, ◌≡◌, ◌-◌, ◌+◌, ◌<◌, ◌≤◌}
 use Rattle.image_lists.specs.Lists.{walk_list}
 use Rattle.image_lists.specs.Ways.{walk_more, walk_done}
 use Rattle.words.specs.Left.{left}
 use Rattle.image_lists.proofs.walk_list.Goals as goal
 
-pub loop-left-init : goal.loop-left-init
-loop-left-init c = (cc, search rules)
-
-pub overflow_sub-left : goal.overflow_sub-left
-overflow_sub-left c = omega arith
-
-pub loop-left-smaller : goal.loop-left-smaller
-loop-left-smaller c = omega arith
-
-pub loop-left-preserved : goal.loop-left-preserved
-loop-left-preserved c = (search walk_more, omega arith)
-
-pub shape_of-marks : goal.shape_of-marks
-shape_of-marks c = omega arith
+pub loop-preserved : goal.loop-preserved
+loop-preserved c =
+    let more : 0 < c.args.k - c.loop.counter = omega arith in
+    let next : c.args.k - (c.loop.counter + 1) ≡ c.args.k - c.loop.counter - 1 = omega arith in
+    (rw next (search walk_more), omega arith)
 
 pub returns : goal.returns
-returns c = left {x = walk_list _ _ _ _ _} (search walk_done)
+returns c =
+    let done : c.args.k - c.loop.counter ≤ 0 = omega arith in
+    left {x = walk_list _ _ _ _ _} (search walk_done)

@@ -1,19 +1,19 @@
-use Rattle.std.proofs.Common.{arith, ◌≡◌}
-use Rattle.image_nets.specs.Nets.{included_hold}
+use Rattle.std.proofs.Common.{arith, ◌≡◌, ◌-◌, ◌+◌, ◌<◌, ◌≤◌}
 use Rattle.image_nets.specs.Ways.{included_more, included_no, included_done}
 use Rattle.image_nets.proofs.included_hold.Goals as goal
 
-pub returns-then-t-eq0 : goal.returns-then-t-eq0
-returns-then-t-eq0 c = search included_no
+pub returns-in_default : goal.returns-in_default
+returns-in_default c =
+    let more : 0 < c.args.count - c.loop-i.i = omega arith in
+    search included_no
 
-pub overflow_sub-left : goal.overflow_sub-left
-overflow_sub-left c = omega arith
-
-pub loop-left-smaller : goal.loop-left-smaller
-loop-left-smaller c = omega arith
-
-pub loop-left-preserved : goal.loop-left-preserved
-loop-left-preserved c = search included_more
+pub loop-i-preserved : goal.loop-i-preserved
+loop-i-preserved c =
+    let more : 0 < c.args.count - c.loop-i.i = omega arith in
+    let next : c.args.count - (c.loop-i.i + 1) ≡ c.args.count - c.loop-i.i - 1 = omega arith in
+    rw next (search included_more)
 
 pub returns : goal.returns
-returns c = search included_done
+returns c =
+    let done : c.args.count - c.loop-i.i ≤ 0 = omega arith in
+    search included_done

@@ -1,22 +1,16 @@
-use Rattle.std.proofs.Common.{arith, ◌≡◌, rules}
-use Rattle.image_pending.specs.Pending.{count_nodes}
+use Rattle.std.proofs.Common.{arith, ◌≡◌, ◌-◌, ◌+◌, ◌<◌, ◌≤◌}
+use Rattle.layout.specs.Layout.{next}
 use Rattle.image_pending.specs.Ways.{nodes_more, nodes_done}
 use Rattle.image_pending.proofs.count_nodes.Goals as goal
 
-pub loop-left-init : goal.loop-left-init
-loop-left-init c = (cc, search rules)
-
-pub overflow_sub-left : goal.overflow_sub-left
-overflow_sub-left c = omega arith
-
-pub loop-left-smaller : goal.loop-left-smaller
-loop-left-smaller c = omega arith
-
-pub loop-left-preserved : goal.loop-left-preserved
-loop-left-preserved c = (search nodes_more, omega arith)
-
-pub shape_of-tally : goal.shape_of-tally
-shape_of-tally c = omega arith
+pub loop-n-preserved : goal.loop-n-preserved
+loop-n-preserved c =
+    let more : 0 < c.args.k - c.loop-n.n = omega arith in
+    let after : c.loop-n.n + 1 ≡ next c.loop-n.n = omega arith in
+    let rest : c.args.k - (c.loop-n.n + 1) ≡ c.args.k - c.loop-n.n - 1 = omega arith in
+    (rw rest (search nodes_more), omega arith)
 
 pub returns : goal.returns
-returns c = search nodes_done
+returns c =
+    let done : c.args.k - c.loop-n.n ≤ 0 = omega arith in
+    search nodes_done

@@ -1,23 +1,9 @@
-use Rattle.std.proofs.Common.{arith, ◌≡◌, rules}
+use Rattle.std.proofs.Common.{arith, rules}
+use Rattle.marks.specs.Ranges.{each_below}
 use Rattle.image_slots.specs.Slots.{slot_holds, all_hold}
-use Rattle.marks.specs.Tests.{each, each_more, each_no, each_done}
 use Rattle.image_slots.proofs.all_hold.Goals as goal
 
-pub loop-left-init : goal.loop-left-init
-unfolding all_hold
-loop-left-init c = search rules
-
-pub overflow_sub-left : goal.overflow_sub-left
-overflow_sub-left c = omega arith
-
-pub loop-left-smaller : goal.loop-left-smaller
-loop-left-smaller c = omega arith
-
-pub loop-left-preserved : goal.loop-left-preserved
-loop-left-preserved c = search each_more
-
-pub returns-else-slot_holds : goal.returns-else-slot_holds
-returns-else-slot_holds c = search each_no
-
 pub returns : goal.returns
-returns c = search each_done
+unfolding all_hold
+returns c =
+    each_below (slot_holds c.args.ws.now c.args.file.now c.args.paths c.args.names) c.args.k c.all.ensures.ran (omega arith) (λ x b q k. search rules)

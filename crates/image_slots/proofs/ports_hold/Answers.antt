@@ -1,23 +1,8 @@
-use Rattle.std.proofs.Common.{arith, ◌≡◌, rules}
+use Rattle.std.proofs.Common.{arith, rules}
+use Rattle.marks.specs.Ranges.{each_from}
 use Rattle.image_slots.specs.Slots.{port_holds, ports_hold}
-use Rattle.marks.specs.Tests.{each, each_more, each_no, each_done}
 use Rattle.image_slots.proofs.ports_hold.Goals as goal
 
-pub loop-left-init : goal.loop-left-init
-unfolding ports_hold
-loop-left-init c = search rules
-
-pub overflow_sub-left : goal.overflow_sub-left
-overflow_sub-left c = omega arith
-
-pub loop-left-smaller : goal.loop-left-smaller
-loop-left-smaller c = omega arith
-
-pub loop-left-preserved : goal.loop-left-preserved
-loop-left-preserved c = search each_more
-
-pub returns-else-port_holds : goal.returns-else-port_holds
-returns-else-port_holds c = search each_no
-
 pub returns : goal.returns
-returns c = search each_done
+unfolding ports_hold
+returns c = each_from (port_holds c.args.ws.now c.args.t.0) c.args.p c.args.k c.all.ensures.ran (omega arith) (λ x b q k. search rules)

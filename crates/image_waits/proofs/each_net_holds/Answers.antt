@@ -1,29 +1,21 @@
-use Rattle.std.proofs.Common.{arith, ◌≡◌, rules}
-use Rattle.image_waits.specs.Waits.{net_holds}
-use Rattle.marks.specs.Walks.{each_with, each_with_more, each_with_no, each_with_done}
+use Rattle.std.proofs.Common.{arith, ◌≡◌, ◌-◌, ◌+◌, ◌<◌, ◌≤◌}
+use Rattle.marks.specs.Walks.{each_with, each_with_next, each_with_no, each_with_done}
 use Rattle.words.specs.Left.{left}
 use Rattle.image_waits.proofs.each_net_holds.Goals as goal
 
-pub loop-left-init : goal.loop-left-init
-loop-left-init c = (cc, search rules)
+pub returns-then-not-net_holds : goal.returns-then-not-net_holds
+returns-then-not-net_holds c =
+    let more : 0 < c.args.k - c.loop-i.i = omega arith in
+    left {x = each_with _ _ _ _} (search each_with_no)
 
-pub overflow_sub-left : goal.overflow_sub-left
-overflow_sub-left c = omega arith
-
-pub loop-left-smaller : goal.loop-left-smaller
-loop-left-smaller c = omega arith
-
-pub loop-left-preserved : goal.loop-left-preserved
-loop-left-preserved c = (search each_with_more, omega arith)
-
-pub shape_of-marks-else-net_holds : goal.shape_of-marks-else-net_holds
-shape_of-marks-else-net_holds c = omega arith
-
-pub returns-else-net_holds : goal.returns-else-net_holds
-returns-else-net_holds c = left {x = each_with _ _ _ _} (search each_with_no)
-
-pub shape_of-marks : goal.shape_of-marks
-shape_of-marks c = omega arith
+pub loop-i-preserved : goal.loop-i-preserved
+loop-i-preserved c =
+    let more : 0 < c.args.k - c.loop-i.i = omega arith in
+    let fits : c.loop-i.i + 1 + (c.args.k - c.loop-i.i) ≤ 4294967296 = omega arith in
+    let next : c.args.k - (c.loop-i.i + 1) ≡ c.args.k - c.loop-i.i - 1 = omega arith in
+    (rw next (search each_with_next), omega arith)
 
 pub returns : goal.returns
-returns c = left {x = each_with _ _ _ _} (search each_with_done)
+returns c =
+    let done : c.args.k - c.loop-i.i ≤ 0 = omega arith in
+    left {x = each_with _ _ _ _} (search each_with_done)

@@ -1,4 +1,4 @@
-use Rattle.std.proofs.Common.{arith, rules}
+use Rattle.std.proofs.Common.{arith}
 use Rattle.words.specs.Choose.{lt_yes, lt_no}
 use Rattle.layout.specs.Layout.{net_by_name}
 use Rattle.layout.proofs.net_by_name.Goals as goal

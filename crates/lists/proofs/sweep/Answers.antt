@@ -1,23 +1,20 @@
-use Rattle.std.proofs.Common.{◌≡◌, arith, rules}
-use Rattle.lists.specs.Lists.{sweep, sweep_from}
+use Rattle.std.proofs.Common.{◌-◌, ◌+◌, ◌<◌, ◌≤◌, ◌≡◌, arith, rules}
+use native.Mathlib.Nat.{sub-zero}
+use Rattle.lists.specs.Lists.{sweep}
 use Rattle.lists.specs.Ways.{sweep_more, sweep_done}
 use Rattle.lists.proofs.sweep.Goals as goal
 
-pub loop-k-init : goal.loop-k-init
+pub loop-init : goal.loop-init
 unfolding sweep
-loop-k-init c = (cc, search rules)
+loop-init c = (rw sub-zero (cc), search rules)
 
-pub overflow_sub-k : goal.overflow_sub-k
-overflow_sub-k c = omega arith
-
-pub loop-k-smaller : goal.loop-k-smaller
-loop-k-smaller c = omega arith
-
-pub loop-k-preserved : goal.loop-k-preserved
-loop-k-preserved c = (search sweep_more, omega arith)
-
-pub shape_of-ws : goal.shape_of-ws
-shape_of-ws c = omega arith
+pub loop-preserved : goal.loop-preserved
+loop-preserved c =
+    let more : 0 < c.net_word-k.result - c.loop.counter = omega arith in
+    let next : c.net_word-k.result - (c.loop.counter + 1) ≡ c.net_word-k.result - c.loop.counter - 1 = omega arith in
+    (rw next (search sweep_more), omega arith)
 
 pub returns : goal.returns
-returns c = search sweep_done
+returns c =
+    let done : c.net_word-k.result - c.loop.counter ≤ 0 = omega arith in
+    search sweep_done

@@ -1,11 +1,6 @@
-use Rattle.std.proofs.Common.{◌≡◌, ◌+◌, ◌*◌, ◌≤◌, length}
-use Rattle.wire_ends.specs.WireEnds.{joined, join_wires}
-use Rattle.wire_ends.specs.Ways.{wires_done}
-use Rattle.load.specs.Ways.{wires_next}
+use Rattle.std.proofs.Common.{◌-◌, ◌≡◌, ◌+◌, ◌*◌, ◌≤◌, length}
+use Rattle.wire_ends.specs.WireEnds.{join_wires}
 use Rattle.load.proofs.join_there.Given as goal
 
-abbrev pub invariant-loop-left : goal.invariant-loop-left
-invariant-loop-left l = (join_wires l.ws l.wires l.file l.at l.port.0 l.left ≡ join_wires l.initial.ws l.initial.wires l.file l.from l.initial.port.0 l.k) × (length l.ws ≡ length l.initial.ws) × (length l.wires ≡ length l.initial.wires) × (l.at + 2 * l.left ≤ length l.file)
-
-abbrev pub decreases-loop-left : goal.decreases-loop-left
-decreases-loop-left l = l.left
+abbrev pub invariant-loop : goal.invariant-loop
+invariant-loop l = (join_wires l.ws l.wires l.file l.at l.port.0 (l.k - l.counter) ≡ join_wires l.initial.ws l.initial.wires l.file l.from l.initial.port.0 l.k) × (length l.ws ≡ length l.initial.ws) × (length l.wires ≡ length l.initial.wires) × (l.at + 2 * (l.k - l.counter) ≤ length l.file)

@@ -1,23 +1,8 @@
-use Rattle.std.proofs.Common.{arith, ◌≡◌, rules}
+use Rattle.std.proofs.Common.{arith, rules}
 use Rattle.marks.specs.Marks.{met, all_met}
-use Rattle.marks.specs.Tests.{each, each_more, each_no, each_done}
+use Rattle.marks.specs.Ranges.{each_from}
 use Rattle.marks.proofs.all_met.Goals as goal
 
-pub loop-left-init : goal.loop-left-init
-unfolding all_met
-loop-left-init c = search rules
-
-pub overflow_sub-left : goal.overflow_sub-left
-overflow_sub-left c = omega arith
-
-pub loop-left-smaller : goal.loop-left-smaller
-loop-left-smaller c = omega arith
-
-pub loop-left-preserved : goal.loop-left-preserved
-loop-left-preserved c = search each_more
-
-pub returns-else-met : goal.returns-else-met
-returns-else-met c = search each_no
-
 pub returns : goal.returns
-returns c = search each_done
+unfolding all_met
+returns c = each_from (met c.args.marks.now) c.args.from c.args.k c.all.ensures.ran (omega arith) (λ x b q k. search rules)

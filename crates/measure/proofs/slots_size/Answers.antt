@@ -1,20 +1,22 @@
-use Rattle.std.proofs.Common.{◌≡◌, arith}
+use Rattle.layout.specs.Layout.{next}
+use native.Mathlib.Nat.{sub-zero}
+use Rattle.std.proofs.Common.{◌-◌, ◌+◌, ◌<◌, ◌≤◌, ◌≡◌, arith}
 use Rattle.measure.specs.Ways.{slots_more, slots_done}
 use Rattle.measure.specs.Measure.{with_slots, slots_size}
 use Rattle.measure.proofs.slots_size.Goals as goal
 
-pub loop-left-init : goal.loop-left-init
+pub loop-n-init : goal.loop-n-init
 unfolding slots_size
-loop-left-init c = cc
+loop-n-init c = rw sub-zero (cc)
 
-pub overflow_sub-left : goal.overflow_sub-left
-overflow_sub-left c = omega arith
-
-pub loop-left-smaller : goal.loop-left-smaller
-loop-left-smaller c = omega arith
-
-pub loop-left-preserved : goal.loop-left-preserved
-loop-left-preserved c = search slots_more
+pub loop-n-preserved : goal.loop-n-preserved
+loop-n-preserved c =
+    let more : 0 < c.get-used.result - c.loop-n.n = omega arith in
+    let fewer : c.get-used.result - (c.loop-n.n + 1) ≡ c.get-used.result - c.loop-n.n - 1 = omega arith in
+    let step : c.loop-n.n + 1 ≡ next c.loop-n.n = omega arith in
+    rw fewer (search slots_more)
 
 pub returns : goal.returns
-returns c = search slots_done
+returns c =
+    let done : c.get-used.result - c.loop-n.n ≤ 0 = omega arith in
+    search slots_done

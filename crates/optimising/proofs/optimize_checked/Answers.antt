@@ -3,8 +3,8 @@ use Rattle.finishing.specs.Finishing.{four}
 use Rattle.optimising.specs.Optimising as Spec
 use Rattle.optimising.proofs.optimize_checked.Goals as goal
 
-pub returns-in-Accepted : goal.returns-in-Accepted
-returns-in-Accepted c = four {x = Spec.optimize_checked _ _ _ _ _} (search file_accepted)
+pub returns-in-Ok : goal.returns-in-Ok
+returns-in-Ok c = four {x = Spec.optimize_checked _ _ _ _ _} (search file_accepted)
 
-pub returns-in-Refused : goal.returns-in-Refused
-returns-in-Refused c = four {x = Spec.optimize_checked _ _ _ _ _} (search file_refused)
+pub returns-in-Err : goal.returns-in-Err
+returns-in-Err c = four {x = Spec.optimize_checked _ _ _ _ _} (search file_refused)

@@ -4,8 +4,8 @@ use Rattle.orders.proofs.nets_ordered.Goals as goal
 pub returns-then-n-gt256 : goal.returns-then-n-gt256
 returns-then-n-gt256 c = search nets_over
 
-pub returns-in-Ordered : goal.returns-in-Ordered
-returns-in-Ordered c = search nets_all
+pub returns-in-Well : goal.returns-in-Well
+returns-in-Well c = search nets_all
 
 pub returns-in-Not : goal.returns-in-Not
 returns-in-Not c = search nets_not

@@ -1,38 +1,31 @@
-use Rattle.std.proofs.Common.{◌≡◌, ◌+◌, ◌*◌, ◌≤◌, arith, rules}
+use Rattle.std.proofs.Common.{◌≡◌, ◌+◌, ◌-◌, ◌<◌, ◌≤◌, refl, arith}
 use Rattle.orders.specs.Orders.{told}
 use Rattle.orders.specs.Steps.{told_more, told_not, told_unfit, told_done}
 use Rattle.words.specs.Left.{left}
 use Rattle.orders.proofs.nets_told.Goals as goal
 
-pub loop-k-init : goal.loop-k-init
-loop-k-init c = (cc, search rules, omega arith)
+pub loop-i-init : goal.loop-i-init
+loop-i-init c =
+    let start : c.args.n - 0 ≡ c.args.n = omega arith in
+    (rw start, refl, refl)
 
-pub overflow_add-base : goal.overflow_add-base
-overflow_add-base c = omega arith
+pub returns-then-not-fits : goal.returns-then-not-fits
+returns-then-not-fits c =
+    let more : 0 < c.args.n - c.loop-i.i = omega arith in
+    left {x = told _ _ _ _ _ _} (search told_unfit)
 
-pub overflow_sub-k : goal.overflow_sub-k
-overflow_sub-k c = omega arith
+pub returns-then-not-net_ordered : goal.returns-then-not-net_ordered
+returns-then-not-net_ordered c =
+    let more : 0 < c.args.n - c.loop-i.i = omega arith in
+    left {x = told _ _ _ _ _ _} (search told_not)
 
-pub loop-k-smaller : goal.loop-k-smaller
-loop-k-smaller c = omega arith
-
-pub loop-k-preserved : goal.loop-k-preserved
-loop-k-preserved c = (search told_more, omega arith, omega arith)
-
-pub shape_of-counts-else-net_ordered : goal.shape_of-counts-else-net_ordered
-shape_of-counts-else-net_ordered c = omega arith
-
-pub returns-else-net_ordered : goal.returns-else-net_ordered
-returns-else-net_ordered c = left {x = told _ _ _ _ _ _} (search told_not)
-
-pub shape_of-counts-else-fits : goal.shape_of-counts-else-fits
-shape_of-counts-else-fits c = omega arith
-
-pub returns-else-fits : goal.returns-else-fits
-returns-else-fits c = left {x = told _ _ _ _ _ _} (search told_unfit)
-
-pub shape_of-counts : goal.shape_of-counts
-shape_of-counts c = omega arith
+pub loop-i-preserved : goal.loop-i-preserved
+loop-i-preserved c =
+    let more : 0 < c.args.n - c.loop-i.i = omega arith in
+    let next : c.args.n - (c.loop-i.i + 1) ≡ c.args.n - c.loop-i.i - 1 = omega arith in
+    (rw next (search told_more), omega arith, omega arith)
 
 pub returns : goal.returns
-returns c = left {x = told _ _ _ _ _ _} (search told_done)
+returns c =
+    let done : c.args.n - c.loop-i.i ≤ 0 = omega arith in
+    left {x = told _ _ _ _ _ _} (search told_done)

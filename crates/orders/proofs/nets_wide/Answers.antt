@@ -1,14 +1,11 @@
-use Rattle.orders.specs.Steps.{wide_over, wide_ordered, wide_not, wide_wide}
+use Rattle.orders.specs.Steps.{wide_over, wide_well, wide_rest}
 use Rattle.orders.proofs.nets_wide.Goals as goal
 
 pub returns-then-n-gt256 : goal.returns-then-n-gt256
 returns-then-n-gt256 c = search wide_over
 
-pub returns-in-Ordered : goal.returns-in-Ordered
-returns-in-Ordered c = search wide_ordered
+pub returns-in-Well : goal.returns-in-Well
+returns-in-Well c = search wide_well
 
-pub returns-in-Not : goal.returns-in-Not
-returns-in-Not c = search wide_not
-
-pub returns-in-Wide : goal.returns-in-Wide
-returns-in-Wide c = search wide_wide
+pub returns-in_default : goal.returns-in_default
+returns-in_default c = wide_rest _ _ _ _ _ c.if-n-gt256.false c.nets_told.ensures.0 c.in_default.not-Well

@@ -1,27 +1,19 @@
-use Rattle.std.proofs.Common.{◌≡◌, arith}
-use Rattle.orders_tree.specs.Names.{names_from, names_more, names_no, names_done}
+use Rattle.std.proofs.Common.{◌-◌, ◌+◌, ◌<◌, ◌≤◌, ◌≡◌, arith}
+use Rattle.orders_tree.specs.Names.{names_more, names_no, names_done}
 use Rattle.orders_tree.proofs.names_ascend.Goals as goal
 
-pub loop-k-init : goal.loop-k-init
-loop-k-init c = cc
+pub loop-preserved : goal.loop-preserved
+loop-preserved c =
+    let more : 0 < c.args.n - c.loop.counter = omega arith in
+    let next : c.args.n - (c.loop.counter + 1) ≡ c.args.n - c.loop.counter - 1 = omega arith in
+    rw next (search names_more)
 
-pub overflow_cast-last : goal.overflow_cast-last
-overflow_cast-last c = omega arith
-
-pub overflow_add-last : goal.overflow_add-last
-overflow_add-last c = omega arith
-
-pub overflow_sub-k : goal.overflow_sub-k
-overflow_sub-k c = omega arith
-
-pub loop-k-smaller : goal.loop-k-smaller
-loop-k-smaller c = omega arith
-
-pub loop-k-preserved : goal.loop-k-preserved
-loop-k-preserved c = search names_more
-
-pub returns-else-name_fits : goal.returns-else-name_fits
-returns-else-name_fits c = search names_no
+pub returns-then-not-name_fits : goal.returns-then-not-name_fits
+returns-then-not-name_fits c =
+    let more : 0 < c.args.n - c.loop.counter = omega arith in
+    search names_no
 
 pub returns : goal.returns
-returns c = search names_done
+returns c =
+    let done : c.args.n - c.loop.counter ≤ 0 = omega arith in
+    search names_done

@@ -1,35 +1,22 @@
-use Rattle.std.proofs.Common.{arith, ◌+◌, ◌*◌, ◌≤◌, ◌≡◌}
-use Rattle.pair_writers.specs.Pairs.{used, bit_small, count_more, count_done}
-use Rattle.flat_writers.specs.Flat.{unused_by}
-use Rattle.stored.specs.Stored.{pairs_at}
+use Rattle.std.proofs.Common.{arith, ◌≡◌, ◌+◌, ◌-◌, ◌<◌, ◌≤◌}
+use Rattle.pair_writers.specs.Pairs.{bit_small, count_more, count_done}
 use Rattle.pair_writers.proofs.kept_pairs.Goals as goal
 
-pub loop-k-init : goal.loop-k-init
-loop-k-init c = (omega arith, omega arith, omega arith)
-
-pub overflow_cast-j : goal.overflow_cast-j
-overflow_cast-j c = omega arith
-
-pub overflow_mul-j : goal.overflow_mul-j
-overflow_mul-j c = omega arith
-
-pub overflow_add-j : goal.overflow_add-j
-overflow_add-j c = omega arith
+pub loop-j-init : goal.loop-j-init
+loop-j-init c =
+    let whole : c.args.n - 0 ≡ c.args.n = omega arith in
+    (rw whole (omega arith), omega arith)
 
 pub overflow_add-c : goal.overflow_add-c
-overflow_add-c c = omega (arith, bit_small _ _ _ _ c.kept-b.ensures)
+overflow_add-c c = omega (arith, bit_small _ _ _ _ c.kept-c.ensures)
 
-pub overflow_add-j-in-loop-k : goal.overflow_add-j-in-loop-k
-overflow_add-j-in-loop-k c = omega arith
-
-pub overflow_sub-k : goal.overflow_sub-k
-overflow_sub-k c = omega arith
-
-pub loop-k-smaller : goal.loop-k-smaller
-loop-k-smaller c = omega arith
-
-pub loop-k-preserved : goal.loop-k-preserved
-loop-k-preserved c = (search count_more, omega (arith, bit_small _ _ _ _ c.kept-b.ensures), omega arith)
+pub loop-j-preserved : goal.loop-j-preserved
+loop-j-preserved c =
+    let more : 0 < c.args.n - c.loop-j.j = omega arith in
+    let next : c.args.n - (c.loop-j.j + 1) ≡ c.args.n - c.loop-j.j - 1 = omega arith in
+    (rw next (search count_more), omega (arith, bit_small _ _ _ _ c.kept-c.ensures))
 
 pub returns : goal.returns
-returns c = search count_done
+returns c =
+    let done : c.args.n - c.loop-j.j ≤ 0 = omega arith in
+    search count_done

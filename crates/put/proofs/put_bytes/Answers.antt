@@ -1,57 +1,14 @@
-use Rattle.std.proofs.Common.{arith, ◌+◌, ◌-◌, ◌≤◌, ◌≡◌, length-set}
-use Rattle.put.specs.Written.{put_in, part}
-use Rattle.put.specs.Laws.{full_if, refused, written_if}
-use Rattle.put.specs.Fields.{put_in_none, size_part, part_next, part_done}
+use Rattle.std.proofs.Common.{arith, ◌+◌, ◌-◌, ◌≡◌}
+use Rattle.put.specs.Laws.{refused, written_if}
+use Rattle.put.specs.Written.{part}
 use Rattle.put.proofs.put_bytes.Goals as goal
 
 pub returns-then-s-from : goal.returns-then-s-from
 returns-then-s-from c = refused (λ h. omega arith)
 
-pub overflow_sub-s : goal.overflow_sub-s
-overflow_sub-s c = omega arith
-
 pub returns-then-s-from-2 : goal.returns-then-s-from-2
 returns-then-s-from-2 c = refused (λ h. omega arith)
 
-pub returns-then-out-at : goal.returns-then-out-at
-returns-then-out-at c = full_if (size_part _ _ _ (omega arith)) (omega arith)
-
-pub overflow_sub-out : goal.overflow_sub-out
-overflow_sub-out c = omega arith
-
-pub returns-then-out-at-2 : goal.returns-then-out-at-2
-returns-then-out-at-2 c = full_if (size_part _ _ _ (omega arith)) (omega arith)
-
-pub loop-i-init : goal.loop-i-init
-unfolding part
-loop-i-init c = (put_in_none _ _ (omega arith), omega arith, omega arith, omega arith, omega arith)
-
-pub overflow_add-out : goal.overflow_add-out
-overflow_add-out c = omega arith
-
-pub bounds-s-from : goal.bounds-s-from
-bounds-s-from c = omega arith
-
-pub overflow_add-out-in-loop-i : goal.overflow_add-out-in-loop-i
-overflow_add-out-in-loop-i c = omega arith
-
-pub bounds-out-at : goal.bounds-out-at
-bounds-out-at c = omega arith
-
-pub overflow_add-i : goal.overflow_add-i
-overflow_add-i c = omega arith
-
-pub loop-i-smaller : goal.loop-i-smaller
-loop-i-smaller c = omega arith
-
-pub loop-i-preserved : goal.loop-i-preserved
-loop-i-preserved c = (search part_next, omega arith, omega arith, simp length-set (omega arith), omega arith)
-
-pub overflow_add-result : goal.overflow_add-result
-overflow_add-result c = omega arith
-
-pub shape_of-out : goal.shape_of-out
-shape_of-out c = omega arith
-
 pub returns : goal.returns
-returns c = written_if (omega arith) (search part_done)
+unfolding part
+returns c = let n : c.args.from + c.args.n - c.args.from ≡ c.args.n = omega arith in written_if (omega arith) (rw n at c.put_all.ensures)

@@ -1,9 +1,6 @@
--- `replay_nets::replay_all` is safe and ends: it counts down from the most files that it reads.
+-- `replay_nets::replay_all` is safe: the files counted are as many as the turns at most, and no more differ than there are.
 use Rattle.std.proofs.Common.{◌≤◌}
 use Rattle.replay_nets.proofs.replay_all.Given as goal
 
-abbrev pub invariant-loop-left : goal.invariant-loop-left
-invariant-loop-left g l = l.left ≤ 100000
-
-abbrev pub decreases-loop-left : goal.decreases-loop-left
-decreases-loop-left g l = l.left
+abbrev pub invariant-loop : goal.invariant-loop
+invariant-loop g l = (l.tally.files ≤ l.counter) × (l.tally.different ≤ l.tally.files)

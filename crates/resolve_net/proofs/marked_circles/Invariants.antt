@@ -1,5 +1,4 @@
 use Rattle.std.proofs.Common.{◌≡◌, ◌-◌, length}
-use Rattle.resolve_net.specs.Ways.{inked, marked_more, marked_done}
 use Rattle.resolve_net.specs.Renamed.{circles}
 use Rattle.wire_blocks.specs.Blocks.{looked}
 use Rattle.resolve_net.proofs.marked_circles.Given as goal

@@ -1,8 +1,8 @@
 use Rattle.resolve_net.specs.Ways.{onward_on, onward_deep}
 use Rattle.resolve_net.proofs.onward.Goals as goal
 
-pub returns-in-At : goal.returns-in-At
-returns-in-At c = search onward_on
+pub returns : goal.returns
+returns c = search (onward_on, c.in_ok-pen.was)
 
-pub returns-in-Deep : goal.returns-in-Deep
-returns-in-Deep c = search onward_deep
+pub returns-in_err-pen : goal.returns-in_err-pen
+returns-in_err-pen c = rw c.from_residual.ensures (search (onward_deep, c.in_err-pen.was))

@@ -3,8 +3,8 @@ use Rattle.resolve_net.specs.Renamed.{renamed}
 use Rattle.resolve_walk.specs.Penned.{penned}
 use Rattle.resolve_net.proofs.renamed.Goals as goal
 
-pub returns-in-At : goal.returns-in-At
-returns-in-At c = penned {x = renamed _ _ _ _ _ _ _ _} (search renamed_on)
+pub returns : goal.returns
+returns c = penned {x = renamed _ _ _ _ _ _ _ _} (search (renamed_on, c.in_ok-pen.was))
 
-pub returns-in-Deep : goal.returns-in-Deep
-returns-in-Deep c = penned {x = renamed _ _ _ _ _ _ _ _} (search renamed_deep)
+pub returns-in_err-pen : goal.returns-in_err-pen
+returns-in_err-pen c = penned {x = renamed _ _ _ _ _ _ _ _} (rw c.from_residual.ensures (search (renamed_deep, c.in_err-pen.was)))

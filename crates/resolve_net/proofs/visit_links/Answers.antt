@@ -1,35 +1,22 @@
-use Rattle.std.proofs.Common.{◌≡◌, arith, rules}
+use Rattle.std.proofs.Common.{◌-◌, ◌%◌, ◌+◌, ◌<◌, ◌≤◌, ◌≡◌, arith}
 use Rattle.resolve_net.specs.Ways.{visit_links_more, visit_links_deep, visit_links_done}
 use Rattle.resolve_net.specs.Renamed.{visit_links}
 use Rattle.resolve_walk.specs.Penned.{penned}
 use Rattle.resolve_net.proofs.visit_links.Goals as goal
 
-pub loop-k-init : goal.loop-k-init
-loop-k-init c = (cc, search rules, search rules)
+pub returns-in_err-pen : goal.returns-in_err-pen
+returns-in_err-pen c =
+    let more : 0 < c.args.n - c.loop-i.i = omega arith in
+    penned {x = visit_links _ _ _ _ _ _} (rw c.from_residual.ensures (search (visit_links_deep, c.in_err-pen.was)))
 
-pub shape_of-ws-in-Deep : goal.shape_of-ws-in-Deep
-shape_of-ws-in-Deep c = omega arith
-
-pub shape_of-out-in-Deep : goal.shape_of-out-in-Deep
-shape_of-out-in-Deep c = omega arith
-
-pub returns-in-Deep : goal.returns-in-Deep
-returns-in-Deep c = penned {x = visit_links _ _ _ _ _ _} (search visit_links_deep)
-
-pub overflow_sub-k : goal.overflow_sub-k
-overflow_sub-k c = omega arith
-
-pub loop-k-smaller : goal.loop-k-smaller
-loop-k-smaller c = omega arith
-
-pub loop-k-preserved : goal.loop-k-preserved
-loop-k-preserved c = (search visit_links_more, omega arith, omega arith)
-
-pub shape_of-ws : goal.shape_of-ws
-shape_of-ws c = omega arith
-
-pub shape_of-out : goal.shape_of-out
-shape_of-out c = omega arith
+pub loop-i-preserved : goal.loop-i-preserved
+loop-i-preserved c =
+    let more : 0 < c.args.n - c.loop-i.i = omega arith in
+    let next : c.args.n - (c.loop-i.i + 1) ≡ c.args.n - c.loop-i.i - 1 = omega arith in
+    let step : c.loop-i.i + 1 ≡ (c.loop-i.i + 1) % 4294967296 = omega arith in
+    rw next (search (visit_links_more, c.in_ok-pen.was), omega arith, omega arith)
 
 pub returns : goal.returns
-returns c = penned {x = visit_links _ _ _ _ _ _} (search visit_links_done)
+returns c =
+    let done : c.args.n - c.loop-i.i ≤ 0 = omega arith in
+    penned {x = visit_links _ _ _ _ _ _} (search visit_links_done)

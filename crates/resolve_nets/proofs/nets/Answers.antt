@@ -1,4 +1,4 @@
-use Rattle.std.proofs.Common.{arith, ◌≡◌, rules}
+use Rattle.std.proofs.Common.{◌-◌, ◌+◌, ◌<◌, ◌≤◌, arith, ◌≡◌}
 use Rattle.resolve_walk.specs.Walk.{trees}
 use Rattle.resolve_walk.specs.Ways.{trees_more, trees_deep, trees_done}
 use Rattle.resolve_net.specs.Net.{net}
@@ -6,34 +6,20 @@ use Rattle.resolve_nets.specs.Nets.{nets}
 use Rattle.resolve_walk.specs.Penned.{penned}
 use Rattle.resolve_nets.proofs.nets.Goals as goal
 
-pub loop-k-init : goal.loop-k-init
-loop-k-init c = (cc, search rules, search rules)
-
-pub shape_of-ws-in-Deep : goal.shape_of-ws-in-Deep
-shape_of-ws-in-Deep c = omega arith
-
-pub shape_of-out-in-Deep : goal.shape_of-out-in-Deep
-shape_of-out-in-Deep c = omega arith
-
-pub returns-in-Deep : goal.returns-in-Deep
+pub returns-in_err-pen : goal.returns-in_err-pen
 unfolding nets
-returns-in-Deep c = penned {x = trees (net _) _ _ _ _ _} (search trees_deep)
+returns-in_err-pen c =
+    let more : 0 < c.args.n - c.loop.counter = omega arith in
+    penned {x = trees (net _) _ _ _ _ _} (rw c.from_residual.ensures (search (trees_deep, c.in_err-pen.was)))
 
-pub overflow_sub-k : goal.overflow_sub-k
-overflow_sub-k c = omega arith
-
-pub loop-k-smaller : goal.loop-k-smaller
-loop-k-smaller c = omega arith
-
-pub loop-k-preserved : goal.loop-k-preserved
-loop-k-preserved c = (search trees_more, omega arith, omega arith)
-
-pub shape_of-ws : goal.shape_of-ws
-shape_of-ws c = omega arith
-
-pub shape_of-out : goal.shape_of-out
-shape_of-out c = omega arith
+pub loop-preserved : goal.loop-preserved
+loop-preserved c =
+    let more : 0 < c.args.n - c.loop.counter = omega arith in
+    let next : c.args.n - (c.loop.counter + 1) ≡ c.args.n - c.loop.counter - 1 = omega arith in
+    rw next (search (trees_more, c.in_ok-pen.was), omega arith, omega arith)
 
 pub returns : goal.returns
 unfolding nets
-returns c = penned {x = trees (net _) _ _ _ _ _} (search trees_done)
+returns c =
+    let done : c.args.n - c.loop.counter ≤ 0 = omega arith in
+    penned {x = trees (net _) _ _ _ _ _} (search trees_done)

@@ -1,5 +1,5 @@
-use Rattle.std.proofs.Common.{◌-◌, arith}
-use Rattle.scan_tree.specs.Count.{Counts, counts_begin, counts_more, runs_less, counts_nodes, runs_past, runs_end}
+use Rattle.std.proofs.Common.{arith}
+use Rattle.scan_tree.specs.Count.{counts_begin, counts_more, runs_less, counts_nodes, runs_past, runs_end}
 use Rattle.scan_tree.proofs.count.Goals as goal
 
 pub loop-c-init : goal.loop-c-init

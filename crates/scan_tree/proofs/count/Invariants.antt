@@ -1,5 +1,5 @@
 use Rattle.std.proofs.Common.{◌-◌, length}
-use Rattle.scan_tree.specs.Count.{Counts, counts_begin, counts_more, runs_less, counts_nodes, runs_past, runs_end}
+use Rattle.scan_tree.specs.Count.{Counts}
 use Rattle.scan_tree.proofs.count.Given as goal
 
 abbrev pub invariant-loop-c : goal.invariant-loop-c

@@ -1,11 +1,5 @@
-use Rattle.walk_flat.specs.Flat.{parts_free, parts_on, parts_pairs}
+use Rattle.walk_flat.specs.Flat.{parts_on}
 use Rattle.walk_flat.proofs.parts.Goals as goal
 
-pub returns-in_default : goal.returns-in_default
-returns-in_default c = search parts_free
-
-pub returns-in-At-p : goal.returns-in-At-p
-returns-in-At-p c = search parts_on
-
-pub returns-in-Bad : goal.returns-in-Bad
-returns-in-Bad c = search parts_pairs
+pub returns : goal.returns
+returns c = let free = c.in_ok-e.was in let pairs = c.in_ok-q.was in search parts_on

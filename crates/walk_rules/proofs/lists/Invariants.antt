@@ -1,12 +1,7 @@
-use Rattle.std.proofs.Common.{length, ◌≡◌, ◌≤◌}
-use Rattle.walk_rules.specs.Rules.{lists_more, lists_bad}
+use Rattle.std.proofs.Common.{◌-◌, length, ◌≡◌, ◌≤◌}
 use Rattle.net_file.specs.Read.{times, read_list}
-use Rattle.walk.specs.Loops.{times_done}
-use Rattle.walk.specs.After.{after, after_past, after_within}
+use Rattle.walk.specs.After.{after}
 use Rattle.walk_rules.proofs.lists.Given as goal
 
-abbrev pub invariant-loop-k : goal.invariant-loop-k
-invariant-loop-k l = (after l.at (times l.k (read_list l.paths)) l.s ≡ after l.from (times l.n (read_list l.paths)) l.s) × (l.at ≤ length l.s)
-
-abbrev pub decreases-loop-k : goal.decreases-loop-k
-decreases-loop-k l = l.k
+abbrev pub invariant-loop : goal.invariant-loop
+invariant-loop l = (after l.at (times (l.n - l.counter) (read_list l.paths)) l.s ≡ after l.from (times l.n (read_list l.paths)) l.s) × (l.at ≤ length l.s)

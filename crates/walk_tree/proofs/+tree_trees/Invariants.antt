@@ -1,4 +1,4 @@
-use Rattle.std.proofs.Common.{◌≡◌, ◌+◌, ◌*◌, ◌≤◌, length}
+use Rattle.std.proofs.Common.{◌≡◌, ◌+◌, ◌-◌, ◌*◌, ◌≤◌, length}
 use Rattle.net_file.specs.Read.{times, read_tree}
 use Rattle.walk.specs.After.{after}
 use Rattle.walk_tree.proofs.+tree_trees.Given as goal
@@ -9,8 +9,5 @@ decreases-tree l = 2 * l.d
 abbrev pub decreases-trees : goal.decreases-trees
 decreases-trees l = 2 * l.d + 1
 
-abbrev pub invariant-trees-loop-k : goal.invariant-trees-loop-k
-invariant-trees-loop-k l = (after l.at (times l.k (read_tree l.paths l.names l.wires l.d)) l.s ≡ after l.from (times l.n (read_tree l.paths l.names l.wires l.d)) l.s) × (l.at ≤ length l.s)
-
-abbrev pub decreases-trees-loop-k : goal.decreases-trees-loop-k
-decreases-trees-loop-k l = l.k
+abbrev pub invariant-trees-loop : goal.invariant-trees-loop
+invariant-trees-loop l = (after l.at (times (l.n - l.counter) (read_tree l.paths l.names l.wires l.d)) l.s ≡ after l.from (times l.n (read_tree l.paths l.names l.wires l.d)) l.s) × (l.at ≤ length l.s)

@@ -1,22 +1,14 @@
-use Rattle.std.proofs.Common.{◌≡◌, arith, rules}
-use Rattle.wire_ends.specs.WireEnds.{put_pairs}
+use Rattle.std.proofs.Common.{◌-◌, ◌+◌, ◌<◌, ◌≤◌, ◌≡◌, arith}
 use Rattle.wire_ends.specs.Ways.{pairs_more, pairs_done}
 use Rattle.wire_ends.proofs.put_pairs.Goals as goal
 
-pub loop-left-init : goal.loop-left-init
-loop-left-init c = (cc, search rules)
-
-pub overflow_sub-left : goal.overflow_sub-left
-overflow_sub-left c = omega arith
-
-pub loop-left-smaller : goal.loop-left-smaller
-loop-left-smaller c = omega arith
-
-pub loop-left-preserved : goal.loop-left-preserved
-loop-left-preserved c = (search pairs_more, omega arith)
-
-pub shape_of-wires : goal.shape_of-wires
-shape_of-wires c = omega arith
+pub loop-preserved : goal.loop-preserved
+loop-preserved c =
+    let more : 0 < c.args.k - c.loop.counter = omega arith in
+    let next : c.args.k - (c.loop.counter + 1) ≡ c.args.k - c.loop.counter - 1 = omega arith in
+    (rw next (search pairs_more), omega arith)
 
 pub returns : goal.returns
-returns c = search pairs_done
+returns c =
+    let done : c.args.k - c.loop.counter ≤ 0 = omega arith in
+    search pairs_done

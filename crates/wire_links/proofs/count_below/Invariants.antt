@@ -1,7 +1,6 @@
 use Rattle.std.proofs.Common.{◌≡◌, ◌+◌, ◌-◌, ◌≤◌}
 use Rattle.wire_blocks.specs.Blocks.{looked}
 use Rattle.wire_links.specs.Table.{count_over}
-use Rattle.wire_links.specs.Ways.{count_more, count_done}
 use Rattle.wire_links.proofs.count_below.Given as goal
 
 abbrev pub invariant-loop-w : goal.invariant-loop-w

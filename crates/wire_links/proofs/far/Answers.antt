@@ -1,5 +1,5 @@
 use Rattle.std.proofs.Common.{arith}
-use Rattle.words.specs.Choose.{eq_yes, eq_no, lt_yes, lt_no}
+use Rattle.words.specs.Choose.{eq_yes, eq_no}
 use Rattle.wire_links.specs.Table.{far}
 use Rattle.wire_links.proofs.far.Goals as goal
 

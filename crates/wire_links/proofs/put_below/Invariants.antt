@@ -1,7 +1,6 @@
 use Rattle.std.proofs.Common.{◌≡◌, length, ◌-◌}
 use Rattle.wire_blocks.specs.Blocks.{looked}
 use Rattle.wire_links.specs.Table.{place_over, bytes_over}
-use Rattle.wire_links.specs.Ways.{place_more, place_done, bytes_more, bytes_done}
 use Rattle.wire_links.proofs.put_below.Given as goal
 
 abbrev pub invariant-loop-a : goal.invariant-loop-a

@@ -1,5 +1,5 @@
 use Rattle.std.proofs.Common.{arith}
-use Rattle.words.specs.Choose.{eq_yes, eq_no, lt_yes, lt_no}
+use Rattle.words.specs.Choose.{lt_yes, lt_no}
 use Rattle.wire_links.specs.Table.{pair_place, pair_bytes}
 use Rattle.wire_links.proofs.put_pair.Goals as goal
 

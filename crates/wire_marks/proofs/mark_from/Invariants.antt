@@ -1,10 +1,7 @@
-use Rattle.std.proofs.Common.{◌+◌, ◌*◌, ◌≤◌, ◌≡◌, length}
-use Rattle.wire_marks.specs.Marks.{marked, pairs_more, pairs_done}
+use Rattle.std.proofs.Common.{◌+◌, ◌*◌, ◌-◌, ◌≡◌}
 use Rattle.stored.specs.Stored.{pairs_at}
+use Rattle.wire_marks.specs.Marks.{marked}
 use Rattle.wire_marks.proofs.mark_from.Given as goal
 
-abbrev pub invariant-loop-k : goal.invariant-loop-k
-invariant-loop-k l = (marked l.stamp (pairs_at l.s (l.at + (2 + 4 * l.j)) l.k) l.ws ≡ marked l.stamp (pairs_at l.s (l.at + (2 + 4 * 0)) l.n) l.initial.ws) × (length l.ws ≡ length l.initial.ws) × (l.j + l.k ≤ 65535)
-
-abbrev pub decreases-loop-k : goal.decreases-loop-k
-decreases-loop-k l = l.k
+abbrev pub invariant-loop-j : goal.invariant-loop-j
+invariant-loop-j l = marked l.stamp (pairs_at l.s (l.at + (2 + 4 * l.j)) (l.n - l.j)) l.ws ≡ marked l.stamp (pairs_at l.s (l.at + (2 + 4 * 0)) l.n) l.initial.ws

@@ -1,21 +1,19 @@
-use Rattle.std.proofs.Common.{arith, ◌≡◌, rules}
-use Rattle.wire_places.specs.Places.{seen, nodes_wires, nodes_more, nodes_done}
+use Rattle.std.proofs.Common.{arith, ◌≡◌, ◌+◌, ◌-◌, ◌<◌, ◌≤◌}
+use Rattle.wire_places.specs.Places.{nodes_more, nodes_done}
 use Rattle.wire_places.proofs.mark_nodes.Goals as goal
 
-pub loop-k-init : goal.loop-k-init
-loop-k-init c = (cc, search rules)
+pub loop-init : goal.loop-init
+loop-init c =
+    let whole : c.args.n - 0 ≡ c.args.n = omega arith in
+    rw whole
 
-pub overflow_sub-k : goal.overflow_sub-k
-overflow_sub-k c = omega arith
-
-pub loop-k-smaller : goal.loop-k-smaller
-loop-k-smaller c = omega arith
-
-pub loop-k-preserved : goal.loop-k-preserved
-loop-k-preserved c = (search nodes_more, omega arith)
-
-pub shape_of-ws : goal.shape_of-ws
-shape_of-ws c = omega arith
+pub loop-preserved : goal.loop-preserved
+loop-preserved c =
+    let more : 0 < c.args.n - c.loop.counter = omega arith in
+    let next : c.args.n - (c.loop.counter + 1) ≡ c.args.n - c.loop.counter - 1 = omega arith in
+    rw next (search nodes_more)
 
 pub returns : goal.returns
-returns c = search nodes_done
+returns c =
+    let done : c.args.n - c.loop.counter ≤ 0 = omega arith in
+    search nodes_done

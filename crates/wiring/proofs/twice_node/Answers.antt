@@ -1,8 +1,8 @@
 use Rattle.wiring.specs.Steps.{there_once, there_twice}
 use Rattle.wiring.proofs.twice_node.Goals as goal
 
-pub returns-then-c-base : goal.returns-then-c-base
-returns-then-c-base c = search there_once
+pub returns-then-not-twice : goal.returns-then-not-twice
+returns-then-not-twice c = search there_once
 
 pub returns : goal.returns
 returns c = search there_twice

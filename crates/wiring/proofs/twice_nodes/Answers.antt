@@ -1,20 +1,19 @@
-use Rattle.std.proofs.Common.{◌≡◌, arith}
+use Rattle.std.proofs.Common.{◌-◌, ◌+◌, ◌<◌, ◌≤◌, ◌≡◌, arith}
 use Rattle.wiring.specs.Steps.{nodes_twice_more, nodes_twice_no, nodes_twice_done}
-use Rattle.wiring.specs.Wiring.{twice, nodes_wires}
-use Rattle.net_file.specs.Lists.{all}
 use Rattle.wiring.proofs.twice_nodes.Goals as goal
 
-pub overflow_sub-k : goal.overflow_sub-k
-overflow_sub-k c = omega arith
+pub loop-preserved : goal.loop-preserved
+loop-preserved c =
+    let more : 0 < c.args.n - c.loop.counter = omega arith in
+    let next : c.args.n - (c.loop.counter + 1) ≡ c.args.n - c.loop.counter - 1 = omega arith in
+    rw next (search nodes_twice_more)
 
-pub loop-k-smaller : goal.loop-k-smaller
-loop-k-smaller c = omega arith
-
-pub loop-k-preserved : goal.loop-k-preserved
-loop-k-preserved c = search nodes_twice_more
-
-pub returns-else-twice_node : goal.returns-else-twice_node
-returns-else-twice_node c = search nodes_twice_no
+pub returns-then-not-twice_node : goal.returns-then-not-twice_node
+returns-then-not-twice_node c =
+    let more : 0 < c.args.n - c.loop.counter = omega arith in
+    search nodes_twice_no
 
 pub returns : goal.returns
-returns c = search nodes_twice_done
+returns c =
+    let done : c.args.n - c.loop.counter ≤ 0 = omega arith in
+    search nodes_twice_done

@@ -1,41 +1,30 @@
-use Rattle.std.proofs.Common.{◌≡◌, ◌+◌, ◌*◌, ◌≤◌, arith, rules}
-use Rattle.wiring_nets.specs.Nets as Spec
+use Rattle.std.proofs.Common.{◌≡◌, ◌+◌, ◌-◌, ◌<◌, ◌≤◌, refl, arith}
+use Rattle.wiring_nets.specs.Told.{told_more, told_not, told_unfit, told_done}
 use Rattle.words.specs.Left.{left}
 use Rattle.wiring_nets.proofs.nets_told.Goals as goal
 
-pub loop-k-init : goal.loop-k-init
-loop-k-init c = (cc, search rules, omega arith)
+pub loop-i-init : goal.loop-i-init
+loop-i-init g c =
+    let start : c.args.n - 0 ≡ c.args.n = omega arith in
+    (rw start, refl, refl)
 
-pub overflow_add-base : goal.overflow_add-base
-overflow_add-base c = omega arith
+pub returns-then-not-fits : goal.returns-then-not-fits
+returns-then-not-fits g c =
+    let more : 0 < c.args.n - c.loop-i.i = omega arith in
+    left (told_unfit _ _ _ _ _ _ _ c.fits.ensures _ c.loop-i.invariant.0 more c.if-not-fits.true)
 
-pub overflow_sub-k : goal.overflow_sub-k
-overflow_sub-k c = omega arith
+pub returns-in_default : goal.returns-in_default
+returns-in_default g c =
+    let more : 0 < c.args.n - c.loop-i.i = omega arith in
+    left (told_not _ _ _ _ _ _ _ _ _ c.fits.ensures c.if-not-fits.false c.in_default.ensures c.loop-i.invariant.0 more)
 
-pub loop-k-smaller : goal.loop-k-smaller
-loop-k-smaller c = omega arith
-
-pub loop-k-preserved : goal.loop-k-preserved
-loop-k-preserved c =
-    let l = c.loop-k in
-    (Spec.told_more _ _ _ _ _ _ c.fits.ensures _ _ c.if-fits.true c.tally_net.ensures c.net_wired.ensures _ l.k l.invariant.0 (omega arith) c.if-net_wired.true c.next_net-at.ensures, omega arith, omega arith)
-
-pub shape_of-counts-else-net_wired : goal.shape_of-counts-else-net_wired
-shape_of-counts-else-net_wired c = omega arith
-
-pub returns-else-net_wired : goal.returns-else-net_wired
-returns-else-net_wired c =
-    let l = c.loop-k in
-    left (Spec.told_not _ _ _ _ _ _ c.fits.ensures _ _ c.if-fits.true c.tally_net.ensures c.net_wired.ensures l.k l.invariant.0 (omega arith) c.if-net_wired.false)
-
-pub shape_of-counts-else-fits : goal.shape_of-counts-else-fits
-shape_of-counts-else-fits c = omega arith
-
-pub returns-else-fits : goal.returns-else-fits
-returns-else-fits c = left {x = Spec.told _ _ _ _ _} (search Spec.told_unfit)
-
-pub shape_of-counts : goal.shape_of-counts
-shape_of-counts c = omega arith
+pub loop-i-preserved : goal.loop-i-preserved
+loop-i-preserved g c =
+    let more : 0 < c.args.n - c.loop-i.i = omega arith in
+    let next : c.args.n - (c.loop-i.i + 1) ≡ c.args.n - c.loop-i.i - 1 = omega arith in
+    (rw next (told_more _ _ _ _ _ _ _ _ _ _ c.fits.ensures c.if-not-fits.false c.in-Some.ensures c.loop-i.invariant.0 more), omega arith, omega arith)
 
 pub returns : goal.returns
-returns c = left {x = Spec.told _ _ _ _ _} (search Spec.told_done)
+returns g c =
+    let done : c.args.n - c.loop-i.i ≤ 0 = omega arith in
+    left (told_done _ _ _ _ _ _ _ c.loop-i.invariant.0 done)

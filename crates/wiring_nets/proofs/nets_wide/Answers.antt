@@ -1,14 +1,11 @@
-use Rattle.wiring_nets.specs.Nets as Spec
+use Rattle.wiring_nets.specs.Told.{wide_over, wide_well, wide_rest}
 use Rattle.wiring_nets.proofs.nets_wide.Goals as goal
 
 pub returns-then-n-gt256 : goal.returns-then-n-gt256
-returns-then-n-gt256 c = search Spec.wide_over
+returns-then-n-gt256 g c = wide_over _ _ _ _ c.if-n-gt256.true
 
-pub returns-in-Wired : goal.returns-in-Wired
-returns-in-Wired c = search Spec.wide_wired
+pub returns-in-Well : goal.returns-in-Well
+returns-in-Well g c = wide_well _ _ _ _ _ c.if-n-gt256.false c.nets_told_by.ensures c.in-Well.is
 
-pub returns-in-Not : goal.returns-in-Not
-returns-in-Not c = search Spec.wide_not
-
-pub returns-in-Wide : goal.returns-in-Wide
-returns-in-Wide c = search Spec.wide_wide
+pub returns-in_default : goal.returns-in_default
+returns-in_default g c = wide_rest _ _ _ _ _ c.if-n-gt256.false c.nets_told_by.ensures c.in_default.not-Well

@@ -1,6 +1,5 @@
 use Rattle.std.proofs.Common.{◌-◌, length}
-use Rattle.scan_tree.specs.Count.{runs_less, runs_past, runs_end}
-use Rattle.wiring_tree.specs.Wiring.{Tallies, tallies_begin, tallies_more, tallies_done}
+use Rattle.wiring_tree.specs.Wiring.{Tallies}
 use Rattle.wiring_tree.proofs.tally_trees.Given as goal
 
 abbrev pub invariant-loop-c : goal.invariant-loop-c

@@ -1,27 +1,21 @@
-use Rattle.std.proofs.Common.{◌≡◌, arith, rules}
+use native.Mathlib.Nat.{sub-zero}
+use Rattle.std.proofs.Common.{◌-◌, ◌+◌, ◌<◌, ◌≤◌, ◌≡◌, arith, rules}
 use Rattle.write_nodes.specs.Wrote.{three}
 use Rattle.write_nodes.specs.Ways.{entries_more, entries_done}
-use Rattle.write_nodes.specs.Nodes.{write_list, write_entries}
+use Rattle.write_nodes.specs.Nodes.{write_list}
 use Rattle.write_nodes.proofs.write_list.Goals as goal
 
-pub loop-left-init : goal.loop-left-init
+pub loop-init : goal.loop-init
 unfolding write_list
-loop-left-init c = (cc, search rules, search rules)
+loop-init c = (rw sub-zero (cc), search rules, search rules)
 
-pub overflow_sub-left : goal.overflow_sub-left
-overflow_sub-left c = omega arith
-
-pub loop-left-smaller : goal.loop-left-smaller
-loop-left-smaller c = omega arith
-
-pub loop-left-preserved : goal.loop-left-preserved
-loop-left-preserved c = (search entries_more, omega arith, omega arith)
-
-pub shape_of-ws : goal.shape_of-ws
-shape_of-ws c = omega arith
-
-pub shape_of-out : goal.shape_of-out
-shape_of-out c = omega arith
+pub loop-preserved : goal.loop-preserved
+loop-preserved c =
+    let more : 0 < c.net_word-count.result - c.loop.counter = omega arith in
+    let next : c.net_word-count.result - (c.loop.counter + 1) ≡ c.net_word-count.result - c.loop.counter - 1 = omega arith in
+    (rw next (search entries_more), omega arith, omega arith)
 
 pub returns : goal.returns
-returns c = three {x = write_list _ _ _ _ _} (search entries_done)
+returns c =
+    let done : c.net_word-count.result - c.loop.counter ≤ 0 = omega arith in
+    three {x = write_list _ _ _ _ _} (search entries_done)
