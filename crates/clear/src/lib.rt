@@ -9,7 +9,7 @@ pub fn clear_words(ws: &mut [u32], k: usize)
     ensures { ws.new ≡ zeroed k ws.old }
 {
     let n = k.min(ws.len());
-    ws[..n].fill(0);
+    ws[0..n].fill(0);
 }
 
 // The first k bytes, or all where there are fewer.
@@ -17,5 +17,5 @@ pub fn clear_bytes(bs: &mut [u8], k: usize)
     ensures { bs.new ≡ zeroed k bs.old }
 {
     let n = k.min(bs.len());
-    bs[..n].fill(0);
+    bs[0..n].fill(0);
 }

@@ -62,6 +62,14 @@ eight_halves v = λ i. a v i ∷ b v i ∷ c v i ∷ d v i ∷ v / 16777216 % 25
     d : (v : ℕ) → v / 4294967296 / 1 % 256 ≡ v / 4294967296 % 256
     d v = omega arith
 
+two_high : (v : ℕ) → get_or (be 2 v) 0 0 ≡ v / 256 % 256
+unfolding be
+two_high v = refl
+
+two_low : (v : ℕ) → get_or (be 2 v) 1 0 ≡ v % 256
+unfolding be
+two_low v = omega arith
+
 module _ (at v : ℕ) (out w : List ℕ) (r : ℕ) where
   pub one_is : v < 256 → Wrote (v ∷ []) at out w r → Wrote (be 1 v) at out w r
   unfolding be
@@ -70,6 +78,13 @@ module _ (at v : ℕ) (out w : List ℕ) (r : ℕ) where
   pub two_is : (p : ℕ) (m : List ℕ) → Wrote (v / 256 % 256 ∷ []) at out m p → Wrote (v % 256 ∷ []) p m w r → Wrote (be 2 v) at out w r
   unfolding be
   two_is p m t u = wrote_as (simp (unary_clauses, div-one)) (then t u)
+
+  -- its bytes one after the other
+  pub two_bytes : (bs : List ℕ) (p : ℕ) (m : List ℕ) → bs ≡ be 2 v → Wrote (get_or bs 0 0 ∷ []) at out m p → Wrote (get_or bs 1 0 ∷ []) p m w r → Wrote (be 2 v) at out w r
+  two_bytes bs p m e t u =
+      let high = two_high v in
+      let low = two_low v in
+      two_is p m (wrote_as (ap (λ x. x ∷ []) (ap (λ l. get_or l 0 0) e ∙ high)) t) (wrote_as (ap (λ x. x ∷ []) (ap (λ l. get_or l 1 0) e ∙ low)) u)
 
   pub four_is : (p : ℕ) (m : List ℕ) → Wrote (be 2 (v / 65536 % 65536)) at out m p → Wrote (be 2 (v % 65536)) p m w r → Wrote (be 4 v) at out w r
   four_is p m t u = wrote_as (four_halves v) (then t u)

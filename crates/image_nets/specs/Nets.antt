@@ -29,9 +29,13 @@ called ws t name = same (net_word_words ws t 0) name (eqb (net_by_name ws name) 
 unfoldable pub net_holds : List ℕ → List ℕ → ℕ → ℕ → Bool
 net_holds ws file t at = given (called ws t (be16 file at)) (free_holds ws t (2 + byte file (at + 7)))
 
+-- a net's number: nets count from 1
+unfoldable pub numbered : ℕ → Option ℕ
+numbered t = if_eq t 0 None (Some t)
+
 -- the number after net t, where the net at a place is included and is net t; t, where it is not included; none, where all is not well
 unfoldable pub after_net : List ℕ → List ℕ → ℕ → ℕ → Option ℕ
-after_net ws file t at = if_eq (byte file (at + 2)) 1 (pick (net_holds ws file t at) (Some (next t)) None) (Some t)
+after_net ws file t at = if_eq (byte file (at + 2)) 1 (pick (net_holds ws file t at) (numbered (next t)) None) (numbered t)
 
 -- there is a number, and the rest
 abbrev pub known : Option ℕ → (ℕ → Bool) → Bool

@@ -1,8 +1,8 @@
 // The nets of an image: the included nets of the held file in its order, each with its free node, and the nets by name.
-#![tactic(auto, unfolding(crate::specs::Nets::closed, crate::specs::Nets::is_free, crate::specs::Nets::free_holds, crate::specs::Nets::called, crate::specs::Nets::net_holds, crate::specs::Nets::after_net, crate::specs::Nets::counted, crate::specs::Nets::name_holds, crate::specs::Nets::nets_hold, words::specs::Choose::pick, words::specs::Choose::if_eq, words::specs::Choose::if_lt))]
+#![tactic(auto, unfolding(crate::specs::Nets::closed, crate::specs::Nets::is_free, crate::specs::Nets::free_holds, crate::specs::Nets::called, crate::specs::Nets::net_holds, crate::specs::Nets::numbered, crate::specs::Nets::after_net, crate::specs::Nets::counted, crate::specs::Nets::name_holds, crate::specs::Nets::nets_hold, words::specs::Choose::pick, words::specs::Choose::if_eq, words::specs::Choose::if_lt))]
 
 ghost use Rattle.std.specs.Prelude.{◌+◌, ◌≡◌};
-ghost use Rattle.image_nets.specs.Nets.{closed, is_free, free_holds, called, net_holds, after_net, counted, included_hold, name_holds, names_hold, nets_hold};
+ghost use Rattle.image_nets.specs.Nets.{closed, is_free, free_holds, called, net_holds, numbered, after_net, counted, included_hold, name_holds, names_hold, nets_hold};
 
 use kinds::{NetId, NodeId};
 
@@ -48,15 +48,22 @@ fn net_holds(ws: &[u32], file: &[u8], t: NetId, at: usize) -> bool
         && free_holds(ws, t, 2 + readers::byte_on(file, at, 7) as u32)
 }
 
+// A net's number: nets count from 1.
+fn numbered(t: u32) -> Option<u32>
+    ensures { result ≡ numbered t }
+{
+    if t == 0 { None } else { Some(t) }
+}
+
 // The number after net t, where that is the net at a place; the same number, where the net there is not included; none where all is
 // not well.
 fn after_net(ws: &[u32], file: &[u8], t: u32, at: usize) -> Option<u32>
     ensures { result ≡ after_net ws.now file.now t at }
 {
     if readers::byte_on(file, at, 2) != 1 {
-        Some(t)
+        numbered(t)
     } else if net_holds(ws, file, NetId(t), at) {
-        Some(layout::next(t))
+        numbered(layout::next(t))
     } else {
         None
     }

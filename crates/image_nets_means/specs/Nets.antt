@@ -26,7 +26,7 @@ use Rattle.definitions.specs.Load.{included}
 use Rattle.reached_laws.specs.Accepted.{free_number}
 use Rattle.reached_laws.specs.Image.{Image}
 use Rattle.means.specs.Means.{no_net, Means}
-use Rattle.image_nets.specs.Nets.{called, net_holds, free_holds, after_net, counted, included_hold, name_holds, names_hold, nets_hold}
+use Rattle.image_nets.specs.Nets.{called, net_holds, free_holds, numbered, after_net, counted, included_hold, name_holds, names_hold, nets_hold}
 use Rattle.marks.specs.Tests.{other, most}
 use Rattle.image_means.specs.Yes.{same_yes, most_yes, given_yes, each_yes}
 use Rattle.image_means.specs.Tidy.{Tidy}
@@ -89,16 +89,19 @@ module _ (Named : ℕ → Name → Type 0) (s : List ℕ) (f : File FlatNet) (re
   blank = record { name = 0; included = false; wires = 0; free = []; pairs = []; nodes = [] }
 
   after_included : (k at : ℕ) (v : FlatNet) → NetStands s v at → NetOf k v → v.included ≡ true → after_net ws s (k + 1) at ≡ Some (k + 2)
-  unfolding after_net
+  unfolding after_net numbered
   after_included k at v st o y =
       let b = m.header.few_nets in
       let h = o.0 in
       let z : next (k + 1) ≡ k + 2 = omega arith in
-      sym (eq_yes (byte s (at + 2)) 1 _ _ (eqb-true (byte s (at + 2)) 1 (sym st.included ∙ y)) (pick_true _ _ _ (net_passes k at v st o) (ap Some (sym z))))
+      let some : Some (k + 2) ≡ numbered (next (k + 1)) = eq_no (next (k + 1)) 0 _ _ (λ q. omega arith) (ap Some (sym z)) in
+      sym (eq_yes (byte s (at + 2)) 1 _ _ (eqb-true (byte s (at + 2)) 1 (sym st.included ∙ y)) (pick_true _ _ _ (net_passes k at v st o) some))
 
   after_passed : (k at : ℕ) (v : FlatNet) → NetStands s v at → v.included ≡ false → after_net ws s (k + 1) at ≡ Some (k + 1)
-  unfolding after_net
-  after_passed k at v st y = sym (eq_no (byte s (at + 2)) 1 _ _ (eqb-false (byte s (at + 2)) 1 (sym st.included ∙ y)) refl)
+  unfolding after_net numbered
+  after_passed k at v st y =
+      let some : Some (k + 1) ≡ numbered (k + 1) = eq_no (k + 1) 0 _ _ (λ q. omega arith) refl in
+      sym (eq_no (byte s (at + 2)) 1 _ _ (eqb-false (byte s (at + 2)) 1 (sym st.included ∙ y)) some)
 
   stands : (i : ℕ) → i < length f.nets → NetStands s (get_or f.nets i blank) (place i)
   unfolding place

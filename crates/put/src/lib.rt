@@ -66,6 +66,7 @@ pub fn put_bit(out: &mut [u8], at: usize, b: bool) -> Option<usize>
 }
 
 // The n bytes of s from a place on. None too where it has not so many.
+// Byte by byte: a copy of a length that is not known needs a function of the C library, which the archives for C do without.
 pub fn put_bytes(out: &mut [u8], at: usize, s: &[u8], from: usize, n: usize) -> Option<usize>
     ensures { WrittenIf (from + n ≤ length s.now) (part s.now from n) at out.old out.new result }
 {
@@ -75,7 +76,16 @@ pub fn put_bytes(out: &mut [u8], at: usize, s: &[u8], from: usize, n: usize) -> 
     if s.len() - from < n {
         return None;
     }
-    put_all(out, at, &s[from..from + n])
+    if out.len() < at {
+        return None;
+    }
+    if out.len() - at < n {
+        return None;
+    }
+    for i in 0..n {
+        out[at + i] = s[from + i];
+    }
+    Some(at + n)
 }
 
 // Each number in two bytes.

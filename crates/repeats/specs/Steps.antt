@@ -3,7 +3,7 @@ use Rattle.std.specs.Prelude.{ℕ, zero, suc, ◌+◌, ◌*◌, ◌-◌, ◌/◌
 use Rattle.std.specs.List.{between, copy_within}
 use Rattle.std.specs.Cmp.{nat_cmp_is}
 use Rattle.std.specs.Cmp.Lexicographic.{slice_cmp}
-use Rattle.std.specs.Ordering.{ordering_then, nat_cmp, is_eq, is_lt}
+use Rattle.std.specs.Ordering.{ordering_then, nat_cmp, is_eq, is_lt, is_ne}
 use Rattle.std.proofs.Math.Bool.{true≢false}
 use Rattle.std.proofs.Common.{sym, ap, ◌∙◌, arith, sub-one, add-one, not-suc-le-zero, drop-cons, length-drop, get_or-set_other}
 use Rattle.std.proofs.lemmas.List.{set_comm, get_or-drop}
@@ -54,9 +54,47 @@ compared s a b (suc n) h i =
     let rest = compared s (a + 1) (b + 1) n (omega arith) (omega arith) in
     rw (drop-cons s a 0, drop-cons s b 0, ← add-one a, ← add-one b, rest) (by_first (byte s a) (byte s b) (compare_from s (a + 1) (b + 1) n))
 
+found : (o r : Ordering) → is_ne o ≡ true → o ≡ ordering_then o r
+found Less r f = refl
+found Equal r f = absurd (true≢false (sym f))
+found Greater r f = refl
+
+passed : (o r : Ordering) → is_ne o ≡ false → r ≡ ordering_then o r
+passed Less r f = absurd (true≢false f)
+passed Equal r f = refl
+passed Greater r f = absurd (true≢false f)
+
 pub compare_past : (s : List ℕ) (a b n : ℕ) → (a + n ≤ length s → length s < b + n) → Equal ≡ compare s a b n
 unfolding compare
 compare_past s a b n h = lt_split (length s) (a + n) _ _ (λ (o : Ordering). Equal ≡ o) (λ i. refl) (λ i. lt_yes _ _ _ _ (h i) refl)
+
+-- byte i decides, or what is behind it
+module _ (s : List ℕ) (a b n i : ℕ) (o : Ordering) (e : compare_from s (a + i) (b + i) (n - i) ≡ compare_from s a b n) (h : i < n) (eo : o ≡ nat_cmp (byte s (a + i)) (byte s (b + i))) where
+  step : ordering_then o (compare_from s (a + i + 1) (b + i + 1) (n - i - 1)) ≡ compare_from s a b n
+  unfolding compare_from
+  step =
+      let m : n - i ≡ suc (n - i - 1) = omega arith in
+      let r = compare_from s (a + i + 1) (b + i + 1) (n - i - 1) in
+      rw eo (by_first (byte s (a + i)) (byte s (b + i)) r) ∙ rw m at e
+
+  pub compare_found : (t : Bool) → t ≡ is_ne o → t ≡ true → a + n ≤ length s → b + n ≤ length s → o ≡ compare s a b n
+  unfolding compare
+  compare_found t et f p q = found o _ (sym et ∙ f) ∙ step ∙ lt_no _ _ _ _ p (lt_no _ _ _ _ q refl)
+
+  pub compare_passed : (t : Bool) → t ≡ is_ne o → t ≡ false → compare_from s (a + (i + 1)) (b + (i + 1)) (n - (i + 1)) ≡ compare_from s a b n
+  compare_passed t et f =
+      let x : a + (i + 1) ≡ a + i + 1 = omega arith in
+      let y : b + (i + 1) ≡ b + i + 1 = omega arith in
+      let z : n - (i + 1) ≡ n - i - 1 = omega arith in
+      rw (x, y, z) (passed o _ (sym et ∙ f) ∙ step)
+
+-- what is behind the first k bytes
+pub compare_rest : (s : List ℕ) (a b n k i : ℕ) (o : Ordering) → compare_from s (a + i) (b + i) (n - i) ≡ compare_from s a b n → i ≤ k → k ≤ i → k ≤ n → a + n ≤ length s → b + n ≤ length s
+    → o ≡ compare s (a + k) (b + k) (n - k) → o ≡ compare s a b n
+unfolding compare
+compare_rest s a b n k i o e l g f p q eo =
+    let j : i ≡ k = omega arith in
+    eo ∙ sym (lt_no _ _ _ _ (omega arith) (lt_no _ _ _ _ (omega arith) refl)) ∙ rw j at e ∙ lt_no _ _ _ _ p (lt_no _ _ _ _ q refl)
 
 pub compare_there : (s : List ℕ) (a b n : ℕ) (o : Ordering) → a + n ≤ length s → b + n ≤ length s → o ≡ slice_cmp nat_cmp (between a (a + n) s) (between b (b + n) s) → o ≡ compare s a b n
 unfolding compare

@@ -3,7 +3,7 @@
 // file holds: a hash would leave a bad file a way to make the work quadratic.
 #![tactic(auto)]
 
-ghost use Rattle.std.specs.Prelude.{◌≡◌, get_or, ◌+◌, ◌*◌};
+ghost use Rattle.std.specs.Prelude.{◌≡◌, ◌≤◌, get_or, length, ◌+◌, ◌*◌};
 ghost use Rattle.fields.specs.Fields.{byte};
 ghost use Rattle.repeats.specs.Repeats.{size_of, compare, narrow, search, known, insert, differ_in, differ};
 
@@ -47,6 +47,20 @@ fn name_size(s: &[u8], at: usize) -> usize
     11 + 2 * (fields::byte(s, at + 10) as usize)
 }
 
+// So many bytes are looked at one by one: a name's before its children. Items mostly differ there, and the order of slices reads more
+// than the byte that decides.
+const FEW: usize = 11;
+
+// The first difference of n bytes that are there, by the order of slices. Never inlined, so that `compare` is small enough to be.
+#[inline(never)]
+fn compare_slices(s: &[u8], a: usize, b: usize, n: usize) -> Ordering
+    requires first { a + n ≤ length s.now }
+    requires second { b + n ≤ length s.now }
+    ensures { result ≡ compare s.now a b n }
+{
+    s[a..a + n].cmp(&s[b..b + n])
+}
+
 // The first difference of n bytes at a and at b. Bytes that are not there are no item's: the answer is then the one that refuses.
 pub fn compare(s: &[u8], a: usize, b: usize, n: usize) -> Ordering
     ensures { result ≡ compare s.now a b n }
@@ -55,7 +69,14 @@ pub fn compare(s: &[u8], a: usize, b: usize, n: usize) -> Ordering
     if m < n || m - n < a || m - n < b {
         return Ordering::Equal;
     }
-    s[a..a + n].cmp(&s[b..b + n])
+    let k = n.min(FEW);
+    for i in 0..k {
+        let order = s[a + i].cmp(&s[b + i]);
+        if order.is_ne() {
+            return order;
+        }
+    }
+    compare_slices(s, a + k, b + k, n - k)
 }
 
 fn entry(sorted: &[usize], i: usize) -> usize

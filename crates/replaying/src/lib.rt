@@ -36,20 +36,18 @@ impl Tally {
         self.different < MOST_SHOWN
     }
 
-    // The tally after one file more.
+    // The tally after one file more. At the end of the numbers it counts no further.
     pub fn counted(self, same: bool) -> Tally
-        requires files_bound { self.files < 100000 }
-        requires different_le_files { self.different ≤ self.files }
-        ensures value { result ≡ after self same }
+        ensures value { self.files < 18446744073709551615 → self.different < 18446744073709551615 → result ≡ after self same }
         ensures at_most_one_more { result.files ≤ self.files + 1 }
-        ensures still_different_le_files { result.different ≤ result.files }
+        ensures still_different_le_files { self.different ≤ self.files → result.different ≤ result.files }
     {
         Tally {
-            files: self.files + 1,
+            files: self.files.saturating_add(1),
             different: if same {
                 self.different
             } else {
-                self.different + 1
+                self.different.saturating_add(1)
             },
         }
     }

@@ -23,14 +23,15 @@ pub fn byte(out: &mut [u8], at: usize, b: u8) -> usize
     past(at)
 }
 
-// The bytes of s.
+// The bytes of s. One by one: a copy of a length that is not known needs a function of the C library, which the archives for C do without.
 pub fn word(out: &mut [u8], at: usize, s: &[u8]) -> usize
     ensures { Wrote s.now at out.old out.new result }
 {
-    let start = at.min(out.len());
-    let n = s.len().min(out.len() - start);
-    out[start..start + n].copy_from_slice(&s[..n]);
-    at.saturating_add(s.len())
+    let mut p = at;
+    for i in 0..s.len() {
+        p = byte(out, p, s[i]);
+    }
+    p
 }
 
 // A digit, 0 to 9.

@@ -1,5 +1,5 @@
-use Rattle.std.proofs.Common.{arith}
-use Rattle.repeats.specs.Steps.{compare_past, compare_there}
+use Rattle.std.proofs.Common.{arith, ◌≡◌, ◌≤◌, ◌<◌, ◌+◌, ◌-◌, refl}
+use Rattle.repeats.specs.Steps.{compare_past, compare_found, compare_passed, compare_rest}
 use Rattle.repeats.proofs.compare.Goals as goal
 use Rattle.repeats.proofs.compare.Goals.{then-m-n-via-then-m-n, then-m-n-via-else-m-n+then-m-n-2, then-m-n-via-else-m-n+else-m-n-2+then-m-n-3}
 
@@ -11,5 +11,26 @@ returns-then-m-n c =
       | then-m-n-via-else-m-n+else-m-n-2+then-m-n-3 w ↦ omega arith
     ])
 
+pub loop-i-init : goal.loop-i-init
+loop-i-init c =
+    let x : c.args.a + 0 ≡ c.args.a = omega arith in
+    let y : c.args.b + 0 ≡ c.args.b = omega arith in
+    let z : c.args.n - 0 ≡ c.args.n = omega arith in
+    (rw (x, y, z) refl, omega arith, omega arith)
+
+pub returns-then-is_ne : goal.returns-then-is_ne
+returns-then-is_ne c =
+    let more : c.loop-i.i < c.args.n = omega arith in
+    search compare_found
+
+pub loop-i-preserved : goal.loop-i-preserved
+loop-i-preserved c =
+    let more : c.loop-i.i < c.args.n = omega arith in
+    (search compare_passed, omega arith, omega arith)
+
 pub returns : goal.returns
-returns c = compare_there _ _ _ _ _ (omega arith) (omega arith) c.cmp.ensures
+returns c =
+    let low : c.loop-i.i ≤ c.min-k.result = omega arith in
+    let high : c.min-k.result ≤ c.loop-i.i = omega arith in
+    let few : c.min-k.result ≤ c.args.n = omega arith in
+    search compare_rest
