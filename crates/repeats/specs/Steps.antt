@@ -77,16 +77,27 @@ module _ (s : List ℕ) (a b n i : ℕ) (o : Ordering) (e : compare_from s (a + 
       let r = compare_from s (a + i + 1) (b + i + 1) (n - i - 1) in
       rw eo (by_first (byte s (a + i)) (byte s (b + i)) r) ∙ rw m at e
 
-  pub compare_found : (t : Bool) → t ≡ is_ne o → t ≡ true → a + n ≤ length s → b + n ≤ length s → o ≡ compare s a b n
+  compare_found : (t : Bool) → t ≡ is_ne o → t ≡ true → a + n ≤ length s → b + n ≤ length s → o ≡ compare s a b n
   unfolding compare
   compare_found t et f p q = found o _ (sym et ∙ f) ∙ step ∙ lt_no _ _ _ _ p (lt_no _ _ _ _ q refl)
 
-  pub compare_passed : (t : Bool) → t ≡ is_ne o → t ≡ false → compare_from s (a + (i + 1)) (b + (i + 1)) (n - (i + 1)) ≡ compare_from s a b n
+  compare_passed : (t : Bool) → t ≡ is_ne o → t ≡ false → compare_from s (a + (i + 1)) (b + (i + 1)) (n - (i + 1)) ≡ compare_from s a b n
   compare_passed t et f =
       let x : a + (i + 1) ≡ a + i + 1 = omega arith in
       let y : b + (i + 1) ≡ b + i + 1 = omega arith in
       let z : n - (i + 1) ≡ n - i - 1 = omega arith in
       rw (x, y, z) (passed o _ (sym et ∙ f) ∙ step)
+
+-- the same in the words of two tests
+module _ (s : List ℕ) (a b n i p q : ℕ) (e : compare_from s (a + i) (b + i) (n - i) ≡ compare_from s a b n) (h : i < n) (ep : p ≡ byte s (a + i)) (eq : q ≡ byte s (b + i)) where
+  pub compare_less : p < q → a + n ≤ length s → b + n ≤ length s → Less ≡ compare s a b n
+  compare_less l f g = compare_found s a b n i Less e h (nat_cmp_is (byte s (a + i)) (byte s (b + i)) Less (omega arith)) true refl refl f g
+
+  pub compare_more : q < p → a + n ≤ length s → b + n ≤ length s → Greater ≡ compare s a b n
+  compare_more l f g = compare_found s a b n i Greater e h (nat_cmp_is (byte s (a + i)) (byte s (b + i)) Greater (omega arith)) true refl refl f g
+
+  pub compare_alike : q ≤ p → p ≤ q → compare_from s (a + (i + 1)) (b + (i + 1)) (n - (i + 1)) ≡ compare_from s a b n
+  compare_alike l m = compare_passed s a b n i Equal e h (nat_cmp_is (byte s (a + i)) (byte s (b + i)) Equal (omega arith)) false refl refl
 
 -- what is behind the first k bytes
 pub compare_rest : (s : List ℕ) (a b n k i : ℕ) (o : Ordering) → compare_from s (a + i) (b + i) (n - i) ≡ compare_from s a b n → i ≤ k → k ≤ i → k ≤ n → a + n ≤ length s → b + n ≤ length s

@@ -47,8 +47,8 @@ fn name_size(s: &[u8], at: usize) -> usize
     11 + 2 * (fields::byte(s, at + 10) as usize)
 }
 
-// So many bytes are looked at one by one: a name's before its children. Items mostly differ there, and the order of slices reads more
-// than the byte that decides.
+// So many bytes are looked at one by one, by two tests each: a name's before its children. Items mostly differ there; the order of
+// slices reads more than the byte that decides, and `cmp` of bytes takes longer where which comes first cannot be foreseen.
 const FEW: usize = 11;
 
 // The first difference of n bytes that are there, by the order of slices. Never inlined, so that `compare` is small enough to be.
@@ -71,9 +71,13 @@ pub fn compare(s: &[u8], a: usize, b: usize, n: usize) -> Ordering
     }
     let k = n.min(FEW);
     for i in 0..k {
-        let order = s[a + i].cmp(&s[b + i]);
-        if order.is_ne() {
-            return order;
+        let p = s[a + i];
+        let q = s[b + i];
+        if p < q {
+            return Ordering::Less;
+        }
+        if q < p {
+            return Ordering::Greater;
         }
     }
     compare_slices(s, a + k, b + k, n - k)

@@ -1,5 +1,5 @@
 use Rattle.std.proofs.Common.{arith, ◌≡◌, ◌≤◌, ◌<◌, ◌+◌, ◌-◌, refl}
-use Rattle.repeats.specs.Steps.{compare_past, compare_found, compare_passed, compare_rest}
+use Rattle.repeats.specs.Steps.{compare_past, compare_less, compare_more, compare_alike, compare_rest}
 use Rattle.repeats.proofs.compare.Goals as goal
 use Rattle.repeats.proofs.compare.Goals.{then-m-n-via-then-m-n, then-m-n-via-else-m-n+then-m-n-2, then-m-n-via-else-m-n+else-m-n-2+then-m-n-3}
 
@@ -18,15 +18,20 @@ loop-i-init c =
     let z : c.args.n - 0 ≡ c.args.n = omega arith in
     (rw (x, y, z) refl, omega arith, omega arith)
 
-pub returns-then-is_ne : goal.returns-then-is_ne
-returns-then-is_ne c =
+pub returns-then-p-q : goal.returns-then-p-q
+returns-then-p-q c =
     let more : c.loop-i.i < c.args.n = omega arith in
-    search compare_found
+    search compare_less
+
+pub returns-then-q-p : goal.returns-then-q-p
+returns-then-q-p c =
+    let more : c.loop-i.i < c.args.n = omega arith in
+    search compare_more
 
 pub loop-i-preserved : goal.loop-i-preserved
 loop-i-preserved c =
     let more : c.loop-i.i < c.args.n = omega arith in
-    (search compare_passed, omega arith, omega arith)
+    (search compare_alike, omega arith, omega arith)
 
 pub returns : goal.returns
 returns c =
