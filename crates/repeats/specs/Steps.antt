@@ -68,51 +68,62 @@ pub compare_past : (s : List ℕ) (a b n : ℕ) → (a + n ≤ length s → leng
 unfolding compare
 compare_past s a b n h = lt_split (length s) (a + n) _ _ (λ (o : Ordering). Equal ≡ o) (λ i. refl) (λ i. lt_yes _ _ _ _ (h i) refl)
 
--- byte i decides, or what is behind it
-module _ (s : List ℕ) (a b n i : ℕ) (o : Ordering) (e : compare_from s (a + i) (b + i) (n - i) ≡ compare_from s a b n) (h : i < n) (eo : o ≡ nat_cmp (byte s (a + i)) (byte s (b + i))) where
-  step : ordering_then o (compare_from s (a + i + 1) (b + i + 1) (n - i - 1)) ≡ compare_from s a b n
-  unfolding compare_from
-  step =
-      let m : n - i ≡ suc (n - i - 1) = omega arith in
-      let r = compare_from s (a + i + 1) (b + i + 1) (n - i - 1) in
-      rw eo (by_first (byte s (a + i)) (byte s (b + i)) r) ∙ rw m at e
-
-  compare_found : (t : Bool) → t ≡ is_ne o → t ≡ true → a + n ≤ length s → b + n ≤ length s → o ≡ compare s a b n
-  unfolding compare
-  compare_found t et f p q = found o _ (sym et ∙ f) ∙ step ∙ lt_no _ _ _ _ p (lt_no _ _ _ _ q refl)
-
-  compare_passed : (t : Bool) → t ≡ is_ne o → t ≡ false → compare_from s (a + (i + 1)) (b + (i + 1)) (n - (i + 1)) ≡ compare_from s a b n
-  compare_passed t et f =
-      let x : a + (i + 1) ≡ a + i + 1 = omega arith in
-      let y : b + (i + 1) ≡ b + i + 1 = omega arith in
-      let z : n - (i + 1) ≡ n - i - 1 = omega arith in
-      rw (x, y, z) (passed o _ (sym et ∙ f) ∙ step)
-
--- the same in the words of two tests
-module _ (s : List ℕ) (a b n i p q : ℕ) (e : compare_from s (a + i) (b + i) (n - i) ≡ compare_from s a b n) (h : i < n) (ep : p ≡ byte s (a + i)) (eq : q ≡ byte s (b + i)) where
-  pub compare_less : p < q → a + n ≤ length s → b + n ≤ length s → Less ≡ compare s a b n
-  compare_less l f g = compare_found s a b n i Less e h (nat_cmp_is (byte s (a + i)) (byte s (b + i)) Less (omega arith)) true refl refl f g
-
-  pub compare_more : q < p → a + n ≤ length s → b + n ≤ length s → Greater ≡ compare s a b n
-  compare_more l f g = compare_found s a b n i Greater e h (nat_cmp_is (byte s (a + i)) (byte s (b + i)) Greater (omega arith)) true refl refl f g
-
-  pub compare_alike : q ≤ p → p ≤ q → compare_from s (a + (i + 1)) (b + (i + 1)) (n - (i + 1)) ≡ compare_from s a b n
-  compare_alike l m = compare_passed s a b n i Equal e h (nat_cmp_is (byte s (a + i)) (byte s (b + i)) Equal (omega arith)) false refl refl
-
--- what is behind the first k bytes
-pub compare_rest : (s : List ℕ) (a b n k i : ℕ) (o : Ordering) → compare_from s (a + i) (b + i) (n - i) ≡ compare_from s a b n → i ≤ k → k ≤ i → k ≤ n → a + n ≤ length s → b + n ≤ length s
-    → o ≡ compare s (a + k) (b + k) (n - k) → o ≡ compare s a b n
+-- bytes that are there
+pub compare_is : (s : List ℕ) (a b n : ℕ) → a + n ≤ length s → b + n ≤ length s → compare_from s a b n ≡ compare s a b n
 unfolding compare
-compare_rest s a b n k i o e l g f p q eo =
-    let j : i ≡ k = omega arith in
-    eo ∙ sym (lt_no _ _ _ _ (omega arith) (lt_no _ _ _ _ (omega arith) refl)) ∙ rw j at e ∙ lt_no _ _ _ _ p (lt_no _ _ _ _ q refl)
+compare_is s a b n h i = lt_no _ _ _ _ h (lt_no _ _ _ _ i refl)
+
+compare_turn : (s : List ℕ) (x y k : ℕ) → 0 < k → ordering_then (nat_cmp (byte s x) (byte s y)) (compare_from s (x + 1) (y + 1) (k - 1)) ≡ compare_from s x y k
+unfolding compare_from
+compare_turn s x y zero h = absurd (not-suc-le-zero h)
+compare_turn s x y (suc k) h = rw sub-one (by_first (byte s x) (byte s y) (compare_from s (x + 1) (y + 1) k))
+
+-- byte i decides, or what is behind it
+module _ (s : List ℕ) (a b n i : ℕ) (o x : Ordering) (t : Bool) (e : compare_from s (a + i) (b + i) (n - i) ≡ x) (h : i < n) (eo : o ≡ nat_cmp (byte s (a + i)) (byte s (b + i))) (et : t ≡ is_ne o) where
+  step : ordering_then o (compare_from s (a + i + 1) (b + i + 1) (n - i - 1)) ≡ x
+  step = rw eo (compare_turn s (a + i) (b + i) (n - i) (omega arith)) ∙ e
+
+  pub compare_found : t ≡ true → o ≡ x
+  compare_found f = found o _ (sym et ∙ f) ∙ step
+
+  pub compare_passed : t ≡ false → compare_from s (a + (i + 1)) (b + (i + 1)) (n - (i + 1)) ≡ x
+  compare_passed f =
+      let u : a + (i + 1) ≡ a + i + 1 = omega arith in
+      let v : b + (i + 1) ≡ b + i + 1 = omega arith in
+      let w : n - (i + 1) ≡ n - i - 1 = omega arith in
+      rw (u, v, w) (passed o _ (sym et ∙ f) ∙ step)
+
+pub compare_done : (s : List ℕ) (x y k : ℕ) (o : Ordering) → compare_from s x y k ≡ o → k ≤ 0 → Equal ≡ o
+unfolding compare_from
+compare_done s x y zero o e h = e
+compare_done s x y (suc k) o e h = absurd (not-suc-le-zero h)
+
+-- what differs in its first k bytes
+front_then : (o r t : Ordering) → (is_ne r ≡ true → r ≡ t) → is_ne (ordering_then o r) ≡ true → ordering_then o r ≡ ordering_then o t
+front_then Less r t f h = refl
+front_then Equal r t f h = f h
+front_then Greater r t f h = refl
+
+front : (s : List ℕ) (a b k n : ℕ) → k ≤ n → is_ne (compare_from s a b k) ≡ true → compare_from s a b k ≡ compare_from s a b n
+unfolding compare_from
+front s a b zero n h f = absurd (true≢false (sym f))
+front s a b (suc k) zero h f = absurd (not-suc-le-zero h)
+front s a b (suc k) (suc n) h f =
+    let g : (r : Ordering) → ordering_then (nat_cmp (byte s a) (byte s b)) r ≡ if_lt (byte s a) (byte s b) Less (if_lt (byte s b) (byte s a) Greater r) = by_first (byte s a) (byte s b) in
+    let r = compare_from s (a + 1) (b + 1) k in
+    let t = compare_from s (a + 1) (b + 1) n in
+    sym (g r) ∙ front_then _ r t (front s (a + 1) (b + 1) k n (omega arith)) (rw (g r) f) ∙ g t
+
+pub compare_front : (s : List ℕ) (a b k n : ℕ) (o : Ordering) (t : Bool) → o ≡ compare s a b k → k ≤ n → a + n ≤ length s → b + n ≤ length s → t ≡ is_ne o → t ≡ true → o ≡ compare s a b n
+compare_front s a b k n o t e h p q et f =
+    let there = compare_is s a b k (omega arith) (omega arith) in
+    e ∙ sym there ∙ front s a b k n h (rw (there, ← e) (sym et ∙ f)) ∙ compare_is s a b n p q
 
 pub compare_there : (s : List ℕ) (a b n : ℕ) (o : Ordering) → a + n ≤ length s → b + n ≤ length s → o ≡ slice_cmp nat_cmp (between a (a + n) s) (between b (b + n) s) → o ≡ compare s a b n
-unfolding compare
 compare_there s a b n o h i e =
     let x : a + n - a ≡ n = omega arith in
     let y : b + n - b ≡ n = omega arith in
-    e ∙ rw (x, y) (compared s a b n h i) ∙ lt_no _ _ _ _ h (lt_no _ _ _ _ i refl)
+    e ∙ rw (x, y) (compared s a b n h i) ∙ compare_is s a b n h i
 
 -- ---- the search
 

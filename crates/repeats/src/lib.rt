@@ -47,17 +47,37 @@ fn name_size(s: &[u8], at: usize) -> usize
     11 + 2 * (fields::byte(s, at + 10) as usize)
 }
 
-// So many bytes are looked at one by one, by two tests each: a name's before its children. Items mostly differ there; the order of
-// slices reads more than the byte that decides, and `cmp` of bytes takes longer where which comes first cannot be foreseen.
+// So many bytes are looked at one by one: a name's before its children. Items mostly differ there, and the order of slices reads more
+// than the byte that decides.
 const FEW: usize = 11;
 
-// The first difference of n bytes that are there, by the order of slices. Never inlined, so that `compare` is small enough to be.
-#[inline(never)]
-fn compare_slices(s: &[u8], a: usize, b: usize, n: usize) -> Ordering
+// The first difference of n bytes that are there.
+fn compare_bytes(s: &[u8], a: usize, b: usize, n: usize) -> Ordering
     requires first { a + n ≤ length s.now }
     requires second { b + n ≤ length s.now }
     ensures { result ≡ compare s.now a b n }
 {
+    for i in 0..n {
+        let order = s[a + i].cmp(&s[b + i]);
+        if order.is_ne() {
+            return order;
+        }
+    }
+    Ordering::Equal
+}
+
+// The same of more bytes. Never inlined: that leaves the search of short items small enough to be unrolled.
+#[inline(never)]
+fn compare_long(s: &[u8], a: usize, b: usize, n: usize) -> Ordering
+    requires first { a + n ≤ length s.now }
+    requires second { b + n ≤ length s.now }
+    requires more { FEW ≤ n }
+    ensures { result ≡ compare s.now a b n }
+{
+    let order = compare_bytes(s, a, b, FEW);
+    if order.is_ne() {
+        return order;
+    }
     s[a..a + n].cmp(&s[b..b + n])
 }
 
@@ -69,18 +89,10 @@ pub fn compare(s: &[u8], a: usize, b: usize, n: usize) -> Ordering
     if m < n || m - n < a || m - n < b {
         return Ordering::Equal;
     }
-    let k = n.min(FEW);
-    for i in 0..k {
-        let p = s[a + i];
-        let q = s[b + i];
-        if p < q {
-            return Ordering::Less;
-        }
-        if q < p {
-            return Ordering::Greater;
-        }
+    if FEW < n {
+        return compare_long(s, a, b, n);
     }
-    compare_slices(s, a + k, b + k, n - k)
+    compare_bytes(s, a, b, n)
 }
 
 fn entry(sorted: &[usize], i: usize) -> usize

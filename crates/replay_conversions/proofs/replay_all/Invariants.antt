@@ -1,4 +1,4 @@
--- `replay_conversions::replay_all` is safe: the files counted are as many as the turns at most, and no more differ than there are.
+-- `replay_conversions::replay_all`: the files counted are as many as the turns at most, and no more differ than there are.
 use Rattle.std.proofs.Common.{◌≤◌}
 use Rattle.replay_conversions.proofs.replay_all.Given as goal
 
